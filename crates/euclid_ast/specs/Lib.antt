@@ -1,0 +1,5 @@
+pub use Rattle.key_table.specs.Tables
+pub use Rattle.key_table.specs.Slots
+pub use Rattle.key_table.specs.Payments
+pub mod Comparisons
+pub mod Meaning

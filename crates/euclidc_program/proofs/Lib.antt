@@ -1,0 +1,8 @@
+pub mod Faults
+pub mod Meetings
+pub mod Values
+pub mod Members
+pub mod Numbers
+pub mod RunLemmas
+pub mod DecideLemmas
+pub mod Completeness

@@ -1,0 +1,13 @@
+pub mod CommandViews
+pub mod Commands
+pub mod Decide
+pub mod Decisions
+pub mod PaymentFiles
+pub mod PlainPayments
+pub mod ProgramFiles
+pub mod Runs
+pub mod Stages
+pub mod Statuses
+pub mod Top
+pub mod Unpadded
+pub mod Words

@@ -1,0 +1,55 @@
+ghost use Rattle.std.specs.Prelude.{◌≡◌};
+ghost use Rattle.euclidc_program.specs.Stages.{HaltsWith};
+
+use crate::status::Verdict;
+use key_table::{NoMemory, Text};
+use std::alloc::{AllocError, Global};
+
+/// The text that is put, and what it says.
+#[derive(Debug, Drop)]
+pub struct Answer {
+    pub text: Text,
+    pub verdict: Verdict,
+}
+
+/// Why a stage gave no value: for want of memory, since a file could not be read, or since the answer is decided.
+#[derive(Debug, Drop)]
+pub enum Halt {
+    NoMemory,
+    ReadFault,
+    Ends(Answer),
+}
+
+impl Halt {
+    /// The answer is decided.
+    pub fn with(alloc: Global, text: &str, verdict: Verdict) -> Halt
+        ensures { HaltsWith result text.now verdict }
+    {
+        match Text::from_str(alloc, text) {
+            Ok(text) => Halt::Ends(Answer { text, verdict }),
+            Err(_) => Halt::NoMemory,
+        }
+    }
+}
+
+impl From<NoMemory> for Halt {
+    ghost use Rattle.std.specs.Prelude.{◌≡◌};
+    ghost use Rattle.euclidc_program.specs.declared.answer.Halt.TheVariants.{NoMemory};
+
+    ghost from_gives = { λ _ e. e ≡ NoMemory };
+
+    fn from(_: NoMemory) -> Halt {
+        Halt::NoMemory
+    }
+}
+
+impl From<AllocError> for Halt {
+    ghost use Rattle.std.specs.Prelude.{◌≡◌};
+    ghost use Rattle.euclidc_program.specs.declared.answer.Halt.TheVariants.{NoMemory};
+
+    ghost from_gives = { λ _ e. e ≡ NoMemory };
+
+    fn from(_: AllocError) -> Halt {
+        Halt::NoMemory
+    }
+}

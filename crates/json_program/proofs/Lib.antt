@@ -1,0 +1,5 @@
+pub mod Each
+pub mod EachCounted
+pub mod Lists
+pub mod Values
+pub mod WrittenLemmas

@@ -1,0 +1,73 @@
+-- What stands in JSON, or that the file is not plain.
+use Rattle.std.specs.Prelude.{ℕ, List, [], ◌∷◌, length, bytes_eq, Bool, true, false, nat_le, ◌&&◌, if◌then◌else◌, Option, Some, None, option_and_then, Result, Ok, Err, ⊤}
+use Rattle.std.specs.Option.{option_map_or}
+use Rattle.std.specs.Str.{is_utf8}
+use Rattle.serde_json.specs.Data.{Data, null, Items, no_items, item}
+use Rattle.serde_json.specs.Find.{get, as_str, as_array}
+use Rattle.serde_json.specs.Read as json
+use Rattle.key_table.specs.Answers.{◌>>=◌}
+use Rattle.json_program.specs.declared.error.Unbuilt.{Unbuilt}
+
+abbrev pub unbuilt : Unbuilt
+unbuilt = record {}
+
+-- what is there, or else the fault
+abbrev pub there : {A : Type 0} → Option A → Result A Unbuilt
+there None = Err unbuilt
+there (Some x) = Ok x
+
+-- the value that the bytes are
+abbrev pub json_of : List ℕ → Result Data Unbuilt
+json_of bytes = if is_utf8 bytes then there (json.read bytes) else Err unbuilt
+
+-- the field with a name
+abbrev pub field_of : List ℕ → Data → Result Data Unbuilt
+field_of name d = there (get name d)
+
+abbrev pub unless_null : Option Data → Option Data
+unless_null None = None
+unless_null (Some null) = None
+unless_null (Some d) = Some d
+
+-- the field with a name, unless it is missing or null
+abbrev pub optional_of : List ℕ → Data → Option Data
+optional_of name d = unless_null (get name d)
+
+-- whether it is this string
+abbrev pub is_string : List ℕ → Data → Bool
+is_string wanted d = option_map_or (λ s. bytes_eq s wanted) (as_str d) false
+
+abbrev pub provided : Bool → Result ⊤ Unbuilt
+provided true = Ok tt
+provided false = Err unbuilt
+
+-- that the field with a name is this string
+abbrev pub string_of : List ℕ → List ℕ → Data → Result ⊤ Unbuilt
+string_of name wanted d = field_of name d >>= λ s. provided (is_string wanted s)
+
+abbrev pub within : {A : Type 0} → ℕ → List A → Result (List A) Unbuilt
+within most xs = if nat_le (length xs) most then Ok xs else Err unbuilt
+
+-- a string of at most so many bytes
+abbrev pub text_of : ℕ → Data → Result (List ℕ) Unbuilt
+text_of most d = there (as_str d) >>= within most
+
+abbrev pub listed : Items → List Data
+listed no_items = []
+listed (item d ds) = d ∷ listed ds
+
+-- an array of at most so many items
+abbrev pub list_of : ℕ → Data → Result (List Data) Unbuilt
+list_of most d = there (as_array d) >>= λ ds. within most (listed ds)
+
+abbrev pub the_optional : {X : Type 0} → (Data → Result X Unbuilt) → Option Data → Result (Option X) Unbuilt
+the_optional read None = Ok None
+the_optional read (Some d) = read d >>= λ x. Ok (Some x)
+
+-- each of these in turn
+unfoldable pub each : {X : Type 0} → (Data → Result X Unbuilt) → List Data → Result (List X) Unbuilt
+each read [] = Ok []
+each read (d ∷ ds) = do
+  x ← read d
+  xs ← each read ds
+  Ok (x ∷ xs)

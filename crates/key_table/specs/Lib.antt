@@ -1,0 +1,10 @@
+pub mod Answers
+pub mod BuiltIn
+pub mod KeyViews
+pub mod NameLists
+pub mod Payments
+pub mod Places
+pub mod Slots
+pub mod Tables
+pub mod Texts
+pub mod formers

@@ -1,0 +1,25 @@
+//! Keys, slots, values, payments and atoms: what every other crate speaks of.
+#![tactic(auto)]
+
+mod atom;
+mod built_in;
+mod key;
+mod names;
+mod payment;
+mod seq;
+mod slot;
+mod stop;
+mod table;
+mod text;
+
+pub use atom::{Atom, Op, Test, Verdict3};
+pub use key::Kind;
+pub use payment::{Payment, put_law};
+pub use seq::Seq;
+pub use slot::{Datum, Slot};
+pub use stop::{NoMemory, NotUtf8, Stop};
+pub use table::{KeyTable, TableError};
+pub use text::Text;
+
+#[cfg(test)]
+mod tests;

@@ -1,0 +1,84 @@
+ghost use Rattle.std.specs.Prelude.{◌≡◌, ◌<◌, ◌≤◌, ◌+◌, [], length, map, bytes_eq, position, slice_get, Some, IfSome, IfOk, OnOk, OnErr};
+ghost use Rattle.key_table.specs.NameLists.{with_name, with_names};
+
+use crate::NoMemory;
+use indexmap::IndexSet;
+use std::alloc::Global;
+use std::marker::Model;
+
+/// At most 1,024 names in order, each once and found by its hash. Contracts see the list of them.
+#[derive(Drop)]
+pub(crate) struct Names {
+    names: IndexSet<Vec<u8>>,
+}
+
+impl Model for Names {
+    ghost use Rattle.std.specs.Prelude.{ℕ, List, map, length, ◌≤◌};
+
+    ghost Value = { List (List ℕ) };
+
+    ghost view = { λ n. map (λ v. v.items) n.names.keys };
+
+    ghost invariant = { λ n. length n.names.keys ≤ 1024 };
+}
+
+impl Names {
+    pub(crate) fn new(alloc: Global) -> Names
+        ensures { result ≡ [] }
+    {
+        Names {
+            names: IndexSet::new(alloc),
+        }
+    }
+
+    /// The names of `words`, in their order.
+    pub(crate) fn of(alloc: Global, words: &[&str]) -> Result<Names, NoMemory>
+        requires { length words.now ≤ 1024 }
+        ensures { IfOk result (λ n. n ≡ with_names (map (λ w. w.now) words.now)) }
+    {
+        let mut names = Names::new(alloc);
+        for word in words {
+            names.add(alloc, word)?;
+        }
+        Ok(names)
+    }
+
+    /// Adds the name last, unless it is there.
+    pub(crate) fn add(&mut self, alloc: Global, name: &str) -> Result<(), NoMemory>
+        requires { length self.old < 1024 }
+        ensures ok { OnOk result (self.new ≡ with_name self.old name.now) }
+        ensures count { length self.new ≤ length self.old + 1 }
+    {
+        self.names.insert(Vec::from_slice(alloc, name.as_bytes())?)?;
+        Ok(())
+    }
+
+    pub(crate) fn count(&self) -> u32
+        ensures value { result ≡ length self.now }
+        ensures most { length self.now ≤ 1024 }
+    {
+        self.names.len() as u32
+    }
+
+    /// The place of a name, by its hash.
+    pub(crate) fn find(&self, name: &[u8]) -> Option<u32>
+        ensures place { result ≡ position (λ n. bytes_eq name.now n) self.now }
+        ensures within { IfSome result (λ place. place < length self.now) }
+    {
+        match self.names.get_index_of(name) {
+            Some(place) => Some(place as u32),
+            None => None,
+        }
+    }
+
+    /// The name at a place.
+    pub(crate) fn get(&self, place: u32) -> &[u8]
+        requires { place < length self.now }
+        ensures { slice_get self.now place ≡ Some result.now }
+    {
+        match self.names.get_index(place as usize) {
+            Some(name) => name.as_slice(),
+            None => unreachable!(),
+        }
+    }
+}

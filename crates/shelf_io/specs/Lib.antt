@@ -1,0 +1,4 @@
+pub mod DirShelves
+pub mod MemShelves
+pub mod MemSinks
+pub mod Seen
