@@ -1,15 +1,15 @@
 -- When a comparison holds of a payment.
-use Rattle.std.specs.Prelude.{ℕ, ℤ, int_lt, int_le, not, List, Bool, true, false, ◌&&◌, bytes_eq, Option, Some, None, slice_get}
-use Rattle.std.specs.Ordering.{int_eq}
+use Rattle.std.specs.Prelude.{ℕ, ℤ, not, List, Bool, true, false, ◌&&◌, bytes_eq, Option, Some, None, slice_get}
 use Rattle.std.specs.List.{list_any}
 use Rattle.std.specs.Option.{option_map_or}
 use Rattle.key_table.specs.declared.atom.Op.{Op}
-use Rattle.key_table.specs.declared.atom.Op.TheVariants.{Equal, NotEqual, Less, LessEqual, Greater, GreaterEqual}
+use Rattle.key_table.specs.declared.atom.Op.TheVariants.{Equal, NotEqual}
 use Rattle.key_table.specs.declared.key.Kind.{Kind}
 use Rattle.key_table.specs.declared.key.Kind.TheVariants as kind
 use Rattle.key_table.specs.declared.slot.Datum.{Datum}
 use Rattle.key_table.specs.declared.slot.Datum.TheVariants as datum
 use Rattle.key_table.specs.Tables.{Table, Domain, kind_of, names_of, find_key, domain_at}
+use Rattle.key_table.specs.Atoms.{relates}
 use Rattle.key_table.specs.Slots.{at}
 use Rattle.key_table.specs.Payments.{Entries, value_of}
 use Rattle.euclid_ast.specs.declared.statement.ValueForm.{ValueForm}
@@ -37,14 +37,6 @@ fits _ _ _ = false
 abbrev pub sub_of : ValueForm → Option (List ℕ)
 sub_of (Metadata key value) = Some key
 sub_of _ = None
-
-abbrev pub relates : Op → ℤ → ℤ → Bool
-relates Equal x y = int_eq x y
-relates NotEqual x y = not (int_eq x y)
-relates Less x y = int_lt x y
-relates LessEqual x y = int_le x y
-relates Greater x y = int_lt y x
-relates GreaterEqual x y = int_le y x
 
 -- Whether a value is the variant with this name, under a key with these variants. The number of no variant is none.
 abbrev pub is_word : List (List ℕ) → List ℕ → Datum → Bool

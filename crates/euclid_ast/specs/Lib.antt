@@ -1,3 +1,4 @@
+pub use Rattle.key_table.specs.Atoms
 pub use Rattle.key_table.specs.Tables
 pub use Rattle.key_table.specs.Slots
 pub use Rattle.key_table.specs.Payments

@@ -1,7 +1,7 @@
 ghost use Rattle.std.specs.Prelude.{◌≡◌, ◌<◌, ◌^◌, length, position, IfSome};
 ghost use Rattle.std.specs.List.{list_any, list_all};
 ghost use Rattle.key_table.specs.Tables.{variants_at};
-ghost use Rattle.euclid_ast.specs.Comparisons.{fits, relates, is_word, is_number, is_text, meets, compares, comparison_holds};
+ghost use Rattle.euclid_ast.specs.Comparisons.{fits, is_word, is_number, is_text, meets, compares, comparison_holds};
 ghost use Rattle.euclid_ast.specs.Meaning.{statement_holds, rule_matches, choice, IsWithin};
 
 use crate::{Comparison, NumberTest, Program, Rule, Statement, ValueForm};
@@ -176,20 +176,7 @@ fn is_number(datum: &Datum, op: Op, number: i64) -> bool
     ensures { result ≡ is_number op number datum.now }
 {
     match datum {
-        Datum::Number(there) => relates(op, *there, number),
+        Datum::Number(there) => op.relates(*there, number),
         _ => false,
-    }
-}
-
-fn relates(op: Op, x: i64, y: i64) -> bool
-    ensures { result ≡ relates op x y }
-{
-    match op {
-        Op::Equal => x == y,
-        Op::NotEqual => x != y,
-        Op::Less => x < y,
-        Op::LessEqual => x <= y,
-        Op::Greater => x > y,
-        Op::GreaterEqual => x >= y,
     }
 }

@@ -223,117 +223,94 @@ fn each_operator_compares_an_amount(rt: HostRuntime) -> Result<(), Fail> {
     Ok(())
 }
 
+// A key's name, what it is compared with, a payment, and whether that holds with `equal` and with `not_equal`.
+type Case<'a> = (&'a str, Given<'a>, Paid<'a>, bool, bool);
+
+// That each case holds as it says.
+fn compare(rt: &impl Abort, alloc: Global, cases: &[Case<'_>]) -> Result<(), NoMemory> {
+    for (lhs, given, paid, equal, not_equal) in cases {
+        for (op, want) in [(Op::Equal, *equal), (Op::NotEqual, *not_equal)] {
+            let statement = asks(alloc, [(*lhs, op, *given)].as_slice())?;
+            let found = holds(rt, alloc, statement, *paid)?;
+            assert_eq!(rt; found, want, "{lhs} {op:?} {paid:?}");
+        }
+    }
+    Ok(())
+}
+
 #[test]
-fn forms_compare_by_their_entries(rt: HostRuntime) -> Result<(), Fail> {
-    let alloc = rt.alloc();
-    let outside = Given::NumberTests([
-        NumberTest {
-            op: Op::Greater,
-            number: 10,
-        },
-        NumberTest {
-            op: Op::Less,
-            number: 3,
-        },
-    ]);
+fn arrays_compare_by_their_entries(rt: HostRuntime) -> Result<(), Fail> {
     let no_word = Given::Variants([].as_slice());
     let no_number = Given::Numbers([].as_slice());
     let some_words = Given::Variants(["wallet", "card"].as_slice());
     let other_words = Given::Variants(["wallet", "pay_later"].as_slice());
     let some_numbers = Given::Numbers([5, 7].as_slice());
-    let gold = Given::Metadata("tier", "gold");
-    // With `equal`, and with `not_equal`.
     let cases = [
-        // Arrays without an entry.
         ("payment_method", no_word, Paid::Card, false, true),
         ("payment_method", no_word, Paid::Nothing, false, false),
         ("amount", no_number, Paid::Amount(0), false, true),
-        // Number comparison arrays.
-        ("amount", outside, Paid::Amount(11), true, false),
-        ("amount", outside, Paid::Amount(2), true, false),
-        ("amount", outside, Paid::Amount(5), false, true),
-        ("amount", outside, Paid::Nothing, false, false),
-        // Other arrays.
         ("payment_method", some_words, Paid::Card, true, false),
         ("payment_method", other_words, Paid::Card, false, true),
         ("amount", some_numbers, Paid::Amount(7), true, false),
         ("amount", some_numbers, Paid::Amount(6), false, true),
-        // Single values.
-        (
-            "payment_method",
-            Given::Variant("card"),
-            Paid::Card,
-            true,
-            false,
-        ),
-        (
-            "payment_method",
-            Given::Variant("wallet"),
-            Paid::Card,
-            false,
-            true,
-        ),
-        (
-            "payment_method",
-            Given::Variant("colour"),
-            Paid::Card,
-            false,
-            true,
-        ),
-        ("card_bin", Given::Str("42"), Paid::Bin("42"), true, false),
-        ("card_bin", Given::Str("42"), Paid::Bin("421"), false, true),
-        // A metadata comparison looks at its sub name.
-        (
-            "metadata",
-            gold,
-            Paid::Metadata("tier", "gold"),
-            true,
-            false,
-        ),
-        (
-            "metadata",
-            gold,
-            Paid::Metadata("tier", "blue"),
-            false,
-            true,
-        ),
-        (
-            "metadata",
-            gold,
-            Paid::Metadata("level", "gold"),
-            false,
-            false,
-        ),
-        (
-            "metadata",
-            gold,
-            Paid::Metadata("level", "blue"),
-            false,
-            false,
-        ),
-        // A name that is no key, and forms that do not fit the key.
-        ("colour", Given::Variant("card"), Paid::Card, false, false),
+    ];
+    Ok(compare(&rt, rt.alloc(), &cases)?)
+}
+
+#[test]
+fn number_comparison_arrays_compare_by_their_entries(rt: HostRuntime) -> Result<(), Fail> {
+    let above = NumberTest {
+        op: Op::Greater,
+        number: 10,
+    };
+    let below = NumberTest {
+        op: Op::Less,
+        number: 3,
+    };
+    let outside = Given::NumberTests([above, below]);
+    let cases = [
+        ("amount", outside, Paid::Amount(11), true, false),
+        ("amount", outside, Paid::Amount(2), true, false),
+        ("amount", outside, Paid::Amount(5), false, true),
+        ("amount", outside, Paid::Nothing, false, false),
+    ];
+    Ok(compare(&rt, rt.alloc(), &cases)?)
+}
+
+#[test]
+fn single_values_compare(rt: HostRuntime) -> Result<(), Fail> {
+    let card = Given::Variant("card");
+    let wallet = Given::Variant("wallet");
+    let colour = Given::Variant("colour");
+    let text = Given::Str("42");
+    let gold = Given::Metadata("tier", "gold");
+    let blue_tier = Paid::Metadata("tier", "blue");
+    let gold_tier = Paid::Metadata("tier", "gold");
+    let gold_level = Paid::Metadata("level", "gold");
+    let cases = [
+        ("payment_method", card, Paid::Card, true, false),
+        ("payment_method", wallet, Paid::Card, false, true),
+        ("payment_method", colour, Paid::Card, false, true),
+        ("card_bin", text, Paid::Bin("42"), true, false),
+        ("card_bin", text, Paid::Bin("421"), false, true),
+        ("metadata", gold, gold_tier, true, false),
+        ("metadata", gold, blue_tier, false, true),
+        ("metadata", gold, gold_level, false, false),
+    ];
+    Ok(compare(&rt, rt.alloc(), &cases)?)
+}
+
+#[test]
+fn what_does_not_fit_is_false(rt: HostRuntime) -> Result<(), Fail> {
+    let card = Given::Variant("card");
+    let word = Given::Variant("42");
+    let cases = [
+        ("colour", card, Paid::Card, false, false),
         ("payment_method", Given::Number(0), Paid::Card, false, false),
         ("amount", Given::Str("5"), Paid::Amount(5), false, false),
-        (
-            "card_bin",
-            Given::Variant("42"),
-            Paid::Bin("42"),
-            false,
-            false,
-        ),
+        ("card_bin", word, Paid::Bin("42"), false, false),
     ];
-    for (lhs, given, paid, equal, not_equal) in cases {
-        for (op, want) in [(Op::Equal, equal), (Op::NotEqual, not_equal)] {
-            let statement = asks(alloc, [(lhs, op, given)].as_slice())?;
-            assert_eq!(rt;
-                holds(&rt, alloc, statement, paid)?,
-                want,
-                "{lhs} {op:?} {paid:?}"
-            );
-        }
-    }
-    Ok(())
+    Ok(compare(&rt, rt.alloc(), &cases)?)
 }
 
 #[test]

@@ -1,7 +1,7 @@
 -- What the meaning of the statuses implies: completeness, and what a missing file gives.
 use Rattle.std.proofs.Common.{◌≡◌, ℕ, List, [], ◌∷◌, Option, Some, None, ◌⊎◌, inl, inr, refl, sym, subst}
 use Rattle.shelf_io.specs.Seen.{Name, Files, ShelfSeen, SinkSeen, FailedOn, WhereTold}
-use Rattle.key_table.specs.BuiltIn.{built_in}
+use Rattle.key_table.specs.Tables.{Table}
 use Rattle.key_table.specs.Payments.{Entries}
 use Rattle.euclid_ast.specs.declared.program.Program.{Program}
 use Rattle.euclidc_program.specs.declared.status.Verdict.{Verdict}
@@ -25,25 +25,25 @@ told_all (Some x) Q f = f x
 
 -- good files have the verdict Done alone
 good_done : (command : Command) (files : Files) → IsGood command files → (text : List ℕ) (v : Verdict) → answers command files text v → v ≡ verdict.Done
-good_done (Decide p pay) files (read, is) text v answer =
-    let P : End (Program × Entries) → Type 0 = λ e. Ending (Decides built_in) e text v in
+good_done (Decide table p pay) files (read, is) text v answer =
+    let P : End (Table × Program × Entries) → Type 0 = λ e. Ending Decides e text v in
     let decided : P (goes read) = subst P is answer in
     decided.1
 good_done Unbuilt files good text v answer = absurd good
 
 -- there is no answer where a file that is reached is not held
 missing_none : (command : Command) (files : Files) → IsMissing command files → (text : List ℕ) (v : Verdict) → answers command files text v → ⊥
-missing_none (Decide p pay) files (name, among, none) text v answer =
-    let P : End (Program × Entries) → Type 0 = λ e. Ending (Decides built_in) e text v in
-    subst P (decide-lacks built_in p pay files name among none) answer
+missing_none (Decide table p pay) files (name, among, none) text v answer =
+    let P : End (Table × Program × Entries) → Type 0 = λ e. Ending Decides e text v in
+    subst P (decide-lacks table p pay files name among none) answer
 missing_none Unbuilt files (name, among, none) text v answer = absurd among
 
 good_held : (command : Command) (files : Files) → IsGood command files → (name : Name) → Among name (asked command files) → files name ≡ None → ⊥
-good_held (Decide p pay) files (read, is) name among none = cc (is, decide-lacks built_in p pay files name among none)
+good_held (Decide table p pay) files (read, is) name among none = cc (is, decide-lacks table p pay files name among none)
 good_held Unbuilt files good name among none = absurd good
 
 asked_named : (command : Command) (files : Files) (name : Name) → Among name (asked command files) → Among name (names command)
-asked_named (Decide p pay) files name among = decide-asks built_in p pay files name among
+asked_named (Decide table p pay) files name among = decide-asks table p pay files name among
 asked_named Unbuilt files name among = among
 
 abbrev Ends : Status → Type 0

@@ -1,6 +1,6 @@
+pub mod Joined
 pub mod Faults
 pub mod Meetings
-pub mod Values
 pub mod Members
 pub mod Numbers
 pub mod RunLemmas

@@ -1,5 +1,5 @@
 -- The command `decide`.
-use Rattle.std.specs.Prelude.{◌≡◌, ℕ, List}
+use Rattle.std.specs.Prelude.{◌≡◌, ℕ, List, [], ◌∷◌, ◌++◌}
 use Rattle.shelf_io.specs.Seen.{Name, Files}
 use Rattle.key_table.specs.Payments.{Entries}
 use Rattle.key_table.specs.Tables.{Table}
@@ -9,25 +9,34 @@ use Rattle.euclidc_program.specs.declared.status.Verdict.{Verdict}
 use Rattle.euclidc_program.specs.declared.status.Verdict.TheVariants as verdict
 use Rattle.euclidc_program.specs.Runs.{Run, goes, ◌>>=◌, ending}
 use Rattle.euclidc_program.specs.Stages.{Ending}
+use Rattle.euclidc_program.specs.TableFiles.{TableSource, table_in, table_names}
 use Rattle.euclidc_program.specs.ProgramFiles.{program_file}
 use Rattle.euclidc_program.specs.PaymentFiles.{payment_file}
 use Rattle.euclidc_program.specs.Decisions.{decision_text}
 
--- the program, and then the payment
-abbrev pub run : Table → Name → Name → Files → Run (Program × Entries)
-run table p pay files = do
+-- the program, and then the payment by the table
+abbrev pub run_by : Table → Name → Name → Files → Run (Table × Program × Entries)
+run_by table p pay files = do
   program ← program_file p files
   payment ← payment_file table pay files
-  ending (goes (program, payment))
+  ending (goes (table, program, payment))
+
+-- the table, the program, and then the payment
+abbrev pub run : TableSource → Name → Name → Files → Run (Table × Program × Entries)
+run source p pay files = table_in source files >>= λ table. run_by table p pay files
 
 -- The answer is the decision of the program on the payment.
-abbrev pub Decides : Table → Program × Entries → List ℕ → Verdict → Type 0
-Decides table read text v = (text ≡ decision_text read.0 (choice table read.1 read.0)) × (v ≡ verdict.Done)
+abbrev pub Decides : Table × Program × Entries → List ℕ → Verdict → Type 0
+Decides read text v = (text ≡ decision_text read.1 (choice read.0 read.2 read.1)) × (v ≡ verdict.Done)
 
 -- the answers over these files
-abbrev pub answers : Table → Name → Name → Files → List ℕ → Verdict → Type 0
-answers table p pay files = Ending (Decides table) (run table p pay files).end
+abbrev pub answers : TableSource → Name → Name → Files → List ℕ → Verdict → Type 0
+answers source p pay files = Ending Decides (run source p pay files).end
 
 -- the names of the files that are reached
-abbrev pub asked : Table → Name → Name → Files → List Name
-asked table p pay files = (run table p pay files).asked
+abbrev pub asked : TableSource → Name → Name → Files → List Name
+asked source p pay files = (run source p pay files).asked
+
+-- the names of its files
+abbrev pub names : TableSource → Name → Name → List Name
+names source p pay = table_names source ++ p ∷ pay ∷ []

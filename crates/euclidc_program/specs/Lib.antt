@@ -5,9 +5,11 @@ pub mod Decisions
 pub mod PaymentFiles
 pub mod PlainPayments
 pub mod ProgramFiles
+pub mod Refusals
 pub mod Runs
 pub mod Stages
 pub mod Statuses
+pub mod TableFiles
 pub mod Top
 pub mod Unpadded
 pub mod Words

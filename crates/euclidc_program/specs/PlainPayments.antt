@@ -1,10 +1,10 @@
 -- Plain payments: JSON objects whose names are enum keys, and whose values are variants or null.
 use Rattle.std.specs.Prelude.{ℕ, List, [], Bool, true, false, is_some, if◌then◌else◌, Option, Some, None, option_and_then, Result, Ok, Err}
 use Rattle.std.specs.Option.{option_map_or}
-use Rattle.std.specs.Str.{is_utf8}
 use Rattle.serde_json.specs.Data.{Data, Members, no_members, member}
 use Rattle.serde_json.specs.Find.{as_object, as_str, as_null}
-use Rattle.serde_json.specs.Read as json
+use Rattle.json_shape.specs.declared.error.ShapeError.{ShapeError}
+use Rattle.json_shape.specs.Shapes as shape
 use Rattle.key_table.specs.declared.slot.Datum.TheVariants.{Variant}
 use Rattle.key_table.specs.Answers.{◌>>=◌}
 use Rattle.key_table.specs.Tables.{Domain, variants, Table, find_key, domain_at, find_variant}
@@ -20,9 +20,13 @@ abbrev pub there : {A : Type 0} → Option A → Result A NotPlain
 there None = Err not_plain
 there (Some x) = Ok x
 
+abbrev pub or_not_plain : {A : Type 0} → Result A ShapeError → Result A NotPlain
+or_not_plain (Ok x) = Ok x
+or_not_plain (Err e) = Err not_plain
+
 -- the value that the bytes are
 abbrev pub json_of : List ℕ → Result Data NotPlain
-json_of bytes = if is_utf8 bytes then there (json.read bytes) else Err not_plain
+json_of bytes = or_not_plain (shape.json_of bytes)
 
 abbrev pub if_enum : ℕ → Option Domain → Option ℕ
 if_enum key (Some (variants names)) = Some key

@@ -1,8 +1,17 @@
+/// Where the key table stands.
+#[derive(Clone, Copy, Drop)]
+pub enum TableSource<'a> {
+    /// It is the built-in one.
+    BuiltIn,
+    /// It is read from the file with this name.
+    File(&'a str),
+}
+
 /// What the words ask for.
 #[derive(Clone, Copy, Drop)]
 pub enum Command<'a> {
-    /// The decision of the program in the first file on the payment in the second.
-    Decide(&'a str, &'a str),
+    /// The decision, by a key table, of the program in the first file on the payment in the second.
+    Decide(TableSource<'a>, &'a str, &'a str),
     /// A command that is not built yet.
     Unbuilt,
 }

@@ -9,7 +9,9 @@ mod file;
 mod payment;
 mod payment_file;
 mod program_file;
+mod refusal;
 mod status;
+mod table_file;
 #[cfg(test)]
 mod tests;
 mod top;

@@ -4,9 +4,8 @@ ghost use Rattle.key_table.specs.Answers.{Answers};
 ghost use Rattle.euclidc_program.specs.PlainPayments.{json_of, put_member, put_members, payment_of, plain_payment_of};
 
 use key_table::{Datum, KeyTable, Kind, Payment, Slot, Stop};
-use serde_json::{Category, Map, Value};
+use serde_json::{Map, Value};
 use std::alloc::Global;
-use std::str;
 
 /// The file has a form that is not read yet.
 #[derive(Clone, Copy, Debug, PartialEq, Eq)]
@@ -29,13 +28,10 @@ pub fn plain_payment(
 fn json(alloc: Global, bytes: &[u8]) -> Result<Value, Stop<NotPlain>>
     ensures { Answers view result (json_of bytes.now) }
 {
-    let Ok(text) = str::from_utf8(bytes) else {
-        return Err(Stop::Fault(NotPlain));
-    };
-    match Value::from_str(alloc, text) {
+    match json_shape::read(alloc, bytes) {
         Ok(value) => Ok(value),
-        Err(error) if error.classify() == Category::Memory => Err(Stop::Memory),
-        Err(_) => Err(Stop::Fault(NotPlain)),
+        Err(Stop::Memory) => Err(Stop::Memory),
+        Err(Stop::Fault(_)) => Err(Stop::Fault(NotPlain)),
     }
 }
 

@@ -1,6 +1,7 @@
 use crate::status::Status;
 use crate::top::euclidc;
 use shelf_io::{MemShelf, MemSink, ReadError, Shelf};
+use std::str;
 use std::test::Fail;
 
 const PROGRAM: &str =
@@ -22,6 +23,8 @@ const UNBUILT: &str = "refused command unbuilt\n";
 const HELD: &[(&str, &str)] = &[("P", PROGRAM), ("PAY", CARD)];
 
 const DECIDE: [&str; 4] = ["decide", "-", "P", "PAY"];
+
+const DECIDE_BY_FILE: [&str; 4] = ["decide", "K", "P", "PAY"];
 
 // A sink with room for so many bytes.
 fn sink(rt: &impl AllocGlobal, room: Option<u64>) -> Result<MemSink, Fail> {
@@ -60,122 +63,211 @@ fn padded(rt: &impl AllocGlobal, length: usize) -> Result<String, Fail> {
     Ok(text)
 }
 
+// Words, each list after its status and with `_` for an empty word. No file is read for them.
+const WORDS: &str = "2 _
+2 decide -
+2 decide - P
+2 decide - P PAY more
+2 decide - _ PAY
+2 decide - P _
+2 decide _ P PAY
+2 Decide - P PAY
+2 --help
+2 prove - P S 02 0
+2 prove - P S 256 0
+2 prove - P S Default 0
+2 report - P S 65537
+2 report - P S +1
+2 report - P S -1
+2 report - P S 00
+2 report - P S _
+2 check - P S 0 _
+2 convert P xml
+2 sample 4294967296
+2 sample 18446744073709551616
+2 sample
+3 report - P S 65536
+3 report K P S 0
+3 prove - P S default 10
+3 prove - P S 255 0
+3 check - P S 0 C
+3 convert P json
+3 convert P text
+3 sample 4294967295";
+
+// The words of a line, with `_` for an empty one.
+fn words_of(rt: &impl AllocGlobal, line: &str) -> Result<Vec<String>, Fail> {
+    let mut words = Vec::new(rt.alloc());
+    for word in line.split(' ') {
+        let word = if word == "_" { "" } else { word };
+        words.push(String::from_str(rt.alloc(), word)?)?;
+    }
+    Ok(words)
+}
+
 #[test]
 fn words_are_commands_or_usage(rt: HostRuntime) -> Result<(), Fail> {
-    let cases: [(&[&str], Status, &str); 32] = [
-        (&[], Status::Usage, USAGE),
-        (&["decide", "-"], Status::Usage, USAGE),
-        (&["decide", "-", "P"], Status::Usage, USAGE),
-        (&["decide", "-", "P", "PAY", "more"], Status::Usage, USAGE),
-        (&["decide", "-", "", "PAY"], Status::Usage, USAGE),
-        (&["decide", "-", "P", ""], Status::Usage, USAGE),
-        (&["decide", "", "P", "PAY"], Status::Usage, USAGE),
-        (&["Decide", "-", "P", "PAY"], Status::Usage, USAGE),
-        (&["--help"], Status::Usage, USAGE),
-        (&["prove", "-", "P", "S", "02", "0"], Status::Usage, USAGE),
-        (&["prove", "-", "P", "S", "256", "0"], Status::Usage, USAGE),
-        (
-            &["prove", "-", "P", "S", "Default", "0"],
-            Status::Usage,
-            USAGE,
-        ),
-        (&["report", "-", "P", "S", "65537"], Status::Usage, USAGE),
-        (&["report", "-", "P", "S", "+1"], Status::Usage, USAGE),
-        (&["report", "-", "P", "S", "-1"], Status::Usage, USAGE),
-        (&["report", "-", "P", "S", "00"], Status::Usage, USAGE),
-        (&["report", "-", "P", "S", ""], Status::Usage, USAGE),
-        (&["report", "-", "P", "S", "1 "], Status::Usage, USAGE),
-        (&["check", "-", "P", "S", "0", ""], Status::Usage, USAGE),
-        (&["convert", "P", "xml"], Status::Usage, USAGE),
-        (&["sample", "4294967296"], Status::Usage, USAGE),
-        (&["sample", "18446744073709551616"], Status::Usage, USAGE),
-        (&["sample"], Status::Usage, USAGE),
-        (
-            &["report", "-", "P", "S", "65536"],
-            Status::Refused,
-            UNBUILT,
-        ),
-        (&["report", "K", "P", "S", "0"], Status::Refused, UNBUILT),
-        (
-            &["prove", "-", "P", "S", "default", "10"],
-            Status::Refused,
-            UNBUILT,
-        ),
-        (
-            &["prove", "-", "P", "S", "255", "0"],
-            Status::Refused,
-            UNBUILT,
-        ),
-        (
-            &["check", "-", "P", "S", "0", "C"],
-            Status::Refused,
-            UNBUILT,
-        ),
-        (&["convert", "P", "json"], Status::Refused, UNBUILT),
-        (&["convert", "P", "text"], Status::Refused, UNBUILT),
-        (&["sample", "4294967295"], Status::Refused, UNBUILT),
-        (&["decide", "K", "P", "PAY"], Status::Refused, UNBUILT),
-    ];
-    for (words, status, text) in cases {
-        // No file is read, so the read that is to fail does not come.
+    for line in WORDS.lines() {
+        let (status, words) = line.split_once(' ').ok_or("a line has no words")?;
+        // The read that is to fail does not come.
         let mut shelf = MemShelf::new(rt.alloc());
         shelf.fail_at(0)?;
         let mut out = sink(&rt, None)?;
-        assert_eq!(&rt;
-            run(&rt, words, &mut shelf, &mut out)?,
-            status,
-            "at {words:?}"
-        );
-        assert_eq!(&rt; out.bytes(), text.as_bytes(), "at {words:?}");
-        assert_eq!(&rt; shelf.faults(), 0);
+        let words = words_of(&rt, words)?;
+        let found = euclidc(rt.alloc(), &words, &mut shelf, &mut out);
+        let text = if status == "2" { USAGE } else { UNBUILT };
+        assert_eq!(&rt; number_of(&rt, found)?.as_str(), status, "at {line}");
+        assert_eq!(&rt; out.bytes(), text.as_bytes(), "at {line}");
+        assert_eq!(&rt; shelf.faults(), 0, "at {line}");
     }
     Ok(())
 }
 
 #[test]
+fn no_words_are_usage(rt: HostRuntime) -> Result<(), Fail> {
+    let mut shelf = MemShelf::new(rt.alloc());
+    let mut out = sink(&rt, None)?;
+    assert_eq!(&rt; run(&rt, &[], &mut shelf, &mut out)?, Status::Usage);
+    assert_eq!(&rt; out.bytes(), USAGE.as_bytes());
+    Ok(())
+}
+
+fn number_of(rt: &impl AllocGlobal, status: Status) -> Result<String, Fail> {
+    let number = status.number();
+    Ok(number.to_string(rt.alloc())?)
+}
+
+// Files, a line each after its name, with `*` for the program that stands above and `?` for a file that is missing. Each
+// case begins with the number of its status and the first line of its answer. With a file K the table is read from it.
+const FILES: &str = r#"0 rule 0 "cards"
+P *
+PAY {"payment_method":"card"}
+===
+0 default
+P *
+PAY {}
+===
+0 default
+P *
+PAY {"payment_method":null}
+===
+0 rule 0 "cards"
+P *
+PAY {"payment_method":"wallet","payment_method":"card"}
+===
+3 refused program unbuilt
+P {"defaultSelection":{"type":"none"},"rules":[]}
+PAY [
+===
+3 refused payment unbuilt
+P *
+PAY {"amount":5}
+===
+3 refused payment unbuilt
+P *
+PAY {"colour":null}
+===
+3 refused payment unbuilt
+P *
+PAY {"payment_method":"Card"}
+===
+3 refused payment unbuilt
+P *
+PAY []
+===
+0 rule 0 "cards"
+K key = [{ name = "payment_method", kind = "enum", variants = ["cash", "card"] }]
+P *
+PAY {"payment_method":"card"}
+===
+0 default
+K key = [{ name = "payment_method", kind = "enum", variants = ["cash", "card"] }]
+P *
+PAY {"payment_method":"cash"}
+===
+0 default
+K other = 1
+P *
+PAY {}
+===
+3 refused payment unbuilt
+K other = 1
+P *
+PAY {"payment_method":"card"}
+===
+3 refused table 1 -
+K [
+P [
+PAY [
+===
+3 refused table 2 0
+K key = [{ name = "amount", kind = "float" }]
+P *
+PAY {}
+===
+3 refused table 3 0
+K key = [{ name = "a b", kind = "text" }]
+P *
+PAY {}
+===
+3 refused table 4 1
+K key = [{ name = "amount", kind = "number" }, { name = "amount", kind = "number" }]
+P *
+PAY {}
+===
+3 refused table 5 0
+K key = [{ name = "amount", kind = "number", min = 10, max = 5 }]
+P *
+PAY {}
+===
+3 refused table 1 -
+K [
+===
+5 nothing
+K ?
+P *
+PAY {}
+===
+5 nothing
+K other = 1
+P ?
+PAY {}
+"#;
+
+// A shelf with the files of a case.
+fn shelf_of(rt: &impl AllocGlobal, files: &str) -> Result<MemShelf, Fail> {
+    let mut shelf = MemShelf::new(rt.alloc());
+    for line in files.lines() {
+        let (name, text) = line.split_once(' ').ok_or("a file has no name")?;
+        match text {
+            "?" => (),
+            "*" => shelf.add(name, PROGRAM.as_bytes())?,
+            _ => shelf.add(name, text.as_bytes())?,
+        }
+    }
+    Ok(shelf)
+}
+
+// What a command gives on a shelf: the number of its status and the first line of its answer.
+fn outcome(rt: &impl AllocGlobal, words: &[&str], shelf: &mut MemShelf) -> Result<String, Fail> {
+    let mut out = sink(rt, None)?;
+    let number = run(rt, words, shelf, &mut out)?.number();
+    let text = str::from_utf8(out.bytes())?;
+    let line = text.lines().next().unwrap_or("nothing");
+    Ok(format!(in rt.alloc(); "{number} {line}")?)
+}
+
+#[test]
 fn files_are_judged_in_order(rt: HostRuntime) -> Result<(), Fail> {
-    let other = r#"{"defaultSelection":{"type":"none"},"rules":[]}"#;
-    let cases: [(&str, &str, Status, &str); 10] = [
-        (PROGRAM, CARD, Status::Done, RULE_0),
-        (PROGRAM, "{}", Status::Done, DEFAULT),
-        (PROGRAM, r#"{"payment_method":null}"#, Status::Done, DEFAULT),
-        (
-            PROGRAM,
-            r#"{"payment_method":"wallet","payment_method":"card"}"#,
-            Status::Done,
-            RULE_0,
-        ),
-        (other, CARD, Status::Refused, "refused program unbuilt\n"),
-        (other, "[", Status::Refused, "refused program unbuilt\n"),
-        (
-            PROGRAM,
-            r#"{"amount":5}"#,
-            Status::Refused,
-            "refused payment unbuilt\n",
-        ),
-        (
-            PROGRAM,
-            r#"{"colour":null}"#,
-            Status::Refused,
-            "refused payment unbuilt\n",
-        ),
-        (
-            PROGRAM,
-            r#"{"payment_method":"Card"}"#,
-            Status::Refused,
-            "refused payment unbuilt\n",
-        ),
-        (PROGRAM, "[]", Status::Refused, "refused payment unbuilt\n"),
-    ];
-    for (program, payment, status, text) in cases {
-        let mut shelf = shelf(&rt, &[("P", program), ("PAY", payment)])?;
-        let mut out = sink(&rt, None)?;
-        assert_eq!(&rt;
-            run(&rt, &DECIDE, &mut shelf, &mut out)?,
-            status,
-            "at {payment}"
-        );
-        assert_eq!(&rt; out.bytes(), text.as_bytes(), "at {payment}");
+    for case in FILES.split("===\n") {
+        let (wanted, files) = case.split_once('\n').ok_or("a case has no files")?;
+        let words = if files.starts_with("K ") {
+            DECIDE_BY_FILE
+        } else {
+            DECIDE
+        };
+        let found = outcome(&rt, &words, &mut shelf_of(&rt, files)?)?;
+        assert_eq!(&rt; found.as_str(), wanted, "at {case}");
     }
     Ok(())
 }

@@ -52,7 +52,7 @@ fn outcome<F: Shelf>(alloc: Global, shelf: &mut F, command: Command<'_>) -> Resu
     ensures { Answers (answers (command_view command.entry)) (asked (command_view command.entry)) (names (command_view command.entry)) (F.seen shelf.old) (F.seen shelf.new) result }
 {
     match command {
-        Command::Decide(program, payment) => decide(alloc, shelf, program, payment),
+        Command::Decide(table, program, payment) => decide(alloc, shelf, table, program, payment),
         Command::Unbuilt => Err(Halt::with(alloc, "refused command unbuilt\n", Verdict::Refused)),
     }
 }

@@ -1,11 +1,11 @@
 ghost use Rattle.std.specs.Prelude.{◌≡◌, ◌||◌, [], ◌∷◌, if◌then◌else◌, Some, None, codes, map, option_map, String, string_bytes};
 ghost use Rattle.std.specs.declared.alloc.Global.{Global};
-ghost use Rattle.euclidc_program.specs.Commands.{command_of, Unbuilt};
-ghost use Rattle.euclidc_program.specs.CommandViews.{command_view};
+ghost use Rattle.euclidc_program.specs.Commands.{command_of, source_of, Unbuilt};
+ghost use Rattle.euclidc_program.specs.CommandViews.{command_view, source_view};
 ghost use Rattle.euclidc_program.specs.Words.{all_accept, report_form, prove_form, check_form, convert_form, sample_form, is_number, is_target};
 ghost use Rattle.euclidc_program.specs.Unpadded.{is_unpadded};
 
-use crate::command::Command;
+use crate::command::{Command, TableSource};
 
 const MOST_SPLITS: u32 = 65_536;
 
@@ -41,10 +41,18 @@ fn decide<'a>(
     if verb != "decide" || table.is_empty() || program.is_empty() || payment.is_empty() {
         return None;
     }
+    Some(Command::Decide(source(table), program, payment))
+}
+
+// The built-in table for `-`, else the file with this name.
+fn source(table: &str) -> TableSource<'_>
+    ensures { source_view result ≡ source_of table.now }
+{
     if table == "-" {
-        return Some(Command::Decide(program, payment));
+        TableSource::BuiltIn
+    } else {
+        TableSource::File(table)
     }
-    Some(Command::Unbuilt)
 }
 
 // A command that is not built yet, where the words are one.

@@ -7,7 +7,8 @@ use Rattle.serde_json.specs.Find.{as_array}
 use Rattle.serde_json.specs.View.{view, items_view}
 use Rattle.serde_json.specs.declared.value.Value.{Value}
 use Rattle.key_table.specs.Answers.{◌>>=◌}
-use Rattle.json_program.specs.Shapes.{listed, list_of, unbuilt, within}
+use Rattle.json_program.specs.Shapes.{list_of, unbuilt, within}
+use Rattle.json_shape.specs.Shapes.{listed}
 
 listed-view : (vs : List Value) → listed (items_view vs) ≡ map view vs
 listed-view [] = refl

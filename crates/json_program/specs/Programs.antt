@@ -46,10 +46,10 @@ plain_program_of bytes = answers.◌>>=◌ (json_of bytes) (λ d. answers.◌>>=
 abbrev pub unbuilt_error : JsonError
 unbuilt_error = record { code = 0; path = [] }
 
-abbrev pub or_unbuilt : {A : Type 0} → Result A Unbuilt → Result A JsonError
-or_unbuilt (Ok x) = Ok x
-or_unbuilt (Err e) = Err unbuilt_error
+abbrev pub or_fault : {A : Type 0} → Result A Unbuilt → Result A JsonError
+or_fault (Ok x) = Ok x
+or_fault (Err e) = Err unbuilt_error
 
 -- The program that a file is, or Unbuilt exactly where the file is not plain.
 abbrev pub program_file : List ℕ → Result Program JsonError
-program_file bytes = or_unbuilt (plain_program_of bytes)
+program_file bytes = or_fault (plain_program_of bytes)

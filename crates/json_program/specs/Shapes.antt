@@ -1,10 +1,11 @@
 -- What stands in JSON, or that the file is not plain.
 use Rattle.std.specs.Prelude.{ℕ, List, [], ◌∷◌, length, bytes_eq, Bool, true, false, nat_le, ◌&&◌, if◌then◌else◌, Option, Some, None, option_and_then, Result, Ok, Err, ⊤}
 use Rattle.std.specs.Option.{option_map_or}
-use Rattle.std.specs.Str.{is_utf8}
-use Rattle.serde_json.specs.Data.{Data, null, Items, no_items, item}
+use Rattle.serde_json.specs.Data.{Data, null}
 use Rattle.serde_json.specs.Find.{get, as_str, as_array}
-use Rattle.serde_json.specs.Read as json
+use Rattle.json_shape.specs.declared.error.ShapeError.{ShapeError}
+use Rattle.json_shape.specs.Shapes as shape
+use Rattle.json_shape.specs.Shapes.{listed}
 use Rattle.key_table.specs.Answers.{◌>>=◌}
 use Rattle.json_program.specs.declared.error.Unbuilt.{Unbuilt}
 
@@ -16,9 +17,13 @@ abbrev pub there : {A : Type 0} → Option A → Result A Unbuilt
 there None = Err unbuilt
 there (Some x) = Ok x
 
+abbrev pub or_unbuilt : {A : Type 0} → Result A ShapeError → Result A Unbuilt
+or_unbuilt (Ok x) = Ok x
+or_unbuilt (Err e) = Err unbuilt
+
 -- the value that the bytes are
 abbrev pub json_of : List ℕ → Result Data Unbuilt
-json_of bytes = if is_utf8 bytes then there (json.read bytes) else Err unbuilt
+json_of bytes = or_unbuilt (shape.json_of bytes)
 
 -- the field with a name
 abbrev pub field_of : List ℕ → Data → Result Data Unbuilt
@@ -51,10 +56,6 @@ within most xs = if nat_le (length xs) most then Ok xs else Err unbuilt
 -- a string of at most so many bytes
 abbrev pub text_of : ℕ → Data → Result (List ℕ) Unbuilt
 text_of most d = there (as_str d) >>= within most
-
-abbrev pub listed : Items → List Data
-listed no_items = []
-listed (item d ds) = d ∷ listed ds
 
 -- an array of at most so many items
 abbrev pub list_of : ℕ → Data → Result (List Data) Unbuilt

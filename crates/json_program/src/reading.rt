@@ -9,10 +9,10 @@ use crate::counts::Counts;
 use crate::error::Unbuilt;
 use crate::program::program;
 use euclid_ast::Program;
+use json_shape::read;
 use key_table::{Stop, Text};
-use serde_json::{Category, Value};
+use serde_json::Value;
 use std::alloc::Global;
-use std::str;
 
 const UNBUILT: u8 = 0;
 
@@ -48,12 +48,9 @@ fn plain_program(alloc: Global, bytes: &[u8]) -> Result<Program, Stop<Unbuilt>>
 fn json(alloc: Global, bytes: &[u8]) -> Result<Value, Stop<Unbuilt>>
     ensures { Answers view result (json_of bytes.now) }
 {
-    let Ok(text) = str::from_utf8(bytes) else {
-        return Err(Stop::Fault(Unbuilt));
-    };
-    match Value::from_str(alloc, text) {
+    match read(alloc, bytes) {
         Ok(value) => Ok(value),
-        Err(error) if error.classify() == Category::Memory => Err(Stop::Memory),
-        Err(_) => Err(Stop::Fault(Unbuilt)),
+        Err(Stop::Memory) => Err(Stop::Memory),
+        Err(Stop::Fault(_)) => Err(Stop::Fault(Unbuilt)),
     }
 }

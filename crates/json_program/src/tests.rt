@@ -126,61 +126,38 @@ fn each_field_has_its_shape(rt: HostRuntime) -> Result<(), Fail> {
     Ok(())
 }
 
+// What stands in CARDS and what stands there in its place, after whether that is plain.
+const FORMS: &str = r#"unbuilt {"default -> {"type":"advanced","default
+plain {"default -> {"type":"other","default
+plain {"default -> {"type":null,"default
+unbuilt {"type":"priority","data":[{"connector":"stripe"}]} -> {"type":"volume_split","data":[]}
+unbuilt {"type":"priority","data":[{"connector":"stripe"}]} -> {"type":"none"}
+plain {"type":"priority","data":[{"connector":"stripe"}]} -> {"type":"priority","data":[]}
+unbuilt connectorSelection -> routingOutput
+plain "connectorSelection -> "routingOutput":null,"connectorSelection
+unbuilt "equal" -> "not_equal"
+unbuilt "equal" -> "less_than"
+unbuilt {"type":"enum_variant","value":"card"} -> {"type":"number","value":5}
+unbuilt {"type":"enum_variant","value":"card"} -> {"type":"number","value":"card"}
+unbuilt {"type":"enum_variant","value":"card"} -> {"type":"str_value","value":"card"}
+unbuilt {"type":"enum_variant","value":"card"} -> {"type":"enum_variant_array","value":[]}
+plain {"type":"enum_variant","value":"card"} -> {"value":"","type":"enum_variant"}
+unbuilt "condition" -> "nested":[],"condition"
+unbuilt "condition" -> "nested":[{"condition":[]}],"condition"
+unbuilt "condition" -> "nested":false,"condition"
+plain "condition" -> "nested":null,"condition"
+plain "adyen" -> "adyen","merchant_connector_id":null
+plain "adyen" -> "adyen","merchant_connector_id":"mca_1"
+unbuilt "adyen" -> "adyen","merchant_connector_id":1"#;
+
 #[test]
 fn other_forms_are_unbuilt(rt: HostRuntime) -> Result<(), Fail> {
-    let alloc = rt.alloc();
-    let volume = r#""defaultSelection":{"type":"volume_split","data":[]}"#;
-    let priority = r#""defaultSelection":{"type":"priority","data":[]}"#;
-    let default = r#""defaultSelection":{"type":"priority","data":[{"connector":"stripe"}]}"#;
-    let variant = r#"{"type":"enum_variant","value":"card"}"#;
-    // What stands in the program, what stands there in its place, and whether that is plain.
-    let cases = [
-        ("{\"default", "{\"type\":\"advanced\",\"default", false),
-        ("{\"default", "{\"type\":\"other\",\"default", true),
-        ("{\"default", "{\"type\":null,\"default", true),
-        (default, volume, false),
-        (default, r#""defaultSelection":{"type":"none"}"#, false),
-        (default, priority, true),
-        ("connectorSelection", "routingOutput", false),
-        (
-            "\"connectorSelection",
-            "\"routingOutput\":null,\"connectorSelection",
-            true,
-        ),
-        ("\"equal\"", "\"not_equal\"", false),
-        ("\"equal\"", "\"less_than\"", false),
-        (variant, r#"{"type":"number","value":5}"#, false),
-        (variant, r#"{"type":"number","value":"card"}"#, false),
-        (variant, r#"{"type":"str_value","value":"card"}"#, false),
-        (
-            variant,
-            r#"{"type":"enum_variant_array","value":[]}"#,
-            false,
-        ),
-        (variant, r#"{"value":"","type":"enum_variant"}"#, true),
-        ("\"condition\"", "\"nested\":[],\"condition\"", false),
-        (
-            "\"condition\"",
-            "\"nested\":[{\"condition\":[]}],\"condition\"",
-            false,
-        ),
-        ("\"condition\"", "\"nested\":false,\"condition\"", false),
-        ("\"condition\"", "\"nested\":null,\"condition\"", true),
-        (
-            "\"adyen\"",
-            "\"adyen\",\"merchant_connector_id\":null",
-            true,
-        ),
-        (
-            "\"adyen\"",
-            "\"adyen\",\"merchant_connector_id\":\"mca_1\"",
-            true,
-        ),
-        ("\"adyen\"", "\"adyen\",\"merchant_connector_id\":1", false),
-    ];
-    for (old, new, want) in cases {
-        let file = edited(&rt, alloc, old, new)?;
-        assert_eq!(rt; is_plain(&rt, alloc, file.as_str())?, want, "{new}");
+    for line in FORMS.lines() {
+        let (wanted, change) = line.split_once(' ').ok_or("a line has no change")?;
+        let (old, new) = change.split_once(" -> ").ok_or("a change has no new text")?;
+        let file = edited(&rt, rt.alloc(), old, new)?;
+        let found = is_plain(&rt, rt.alloc(), file.as_str())?;
+        assert_eq!(rt; found, wanted == "plain", "at {line}");
     }
     Ok(())
 }

@@ -1,3 +1,9 @@
+pub mod Cuts
 pub mod Found
+pub mod NameLemmas
+pub mod OptionLemmas
+pub mod Places
+pub mod Runs
 pub mod Sorted
+pub mod TableFileLemmas
 pub mod TextLemmas

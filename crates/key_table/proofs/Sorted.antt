@@ -1,11 +1,11 @@
 -- Where an entry goes among entries in ascending order, and that they stay so.
-use Rattle.std.proofs.Common.{◌≡◌, ℕ, zero, suc, ◌<◌, List, [], ◌∷◌, length, get_or, set, true, false, refl, ap, sym, ◌∙◌, subst, rules, arith, nat_cmp, Bool, cond, Option, Some, None}
+use Rattle.std.proofs.Common.{◌≡◌, List, [], ◌∷◌, true, false, refl, ap, sym, ◌∙◌, rules, Bool, cond, Option, Some}
 use Rattle.std.specs.declared.cmp.Ordering.{Ordering}
 use Rattle.std.specs.declared.cmp.Ordering.TheVariants.{Less, Equal, Greater}
 use Rattle.std.specs.Ordering.{is_eq, ordering_reverse, match_ordering}
 use Rattle.std.specs.Cmp.{IsTotalOrder}
 use Rattle.std.specs.Cmp.Rules.{comparing}
-use Rattle.std.specs.List.{AllByRecursion, insert}
+use Rattle.std.specs.List.{AllByRecursion}
 use Rattle.std.specs.List.Sorted.{IsStrictlySortedBy}
 use Rattle.std.specs.Map.{keys_of}
 use Rattle.std.specs.BTreeMap.{insert_entry}
@@ -13,8 +13,7 @@ use Rattle.std.proofs.lemmas.Bool.{true≢false, false≢true}
 use Rattle.key_table.specs.declared.slot.Slot.{Slot}
 use Rattle.key_table.specs.declared.slot.Datum.{Datum}
 use Rattle.key_table.specs.Slots.{slot_cmp}
-use Rattle.key_table.specs.Payments.{value_of, with_value}
-use Rattle.key_table.specs.Places.{place_of, is_there}
+use Rattle.key_table.specs.Payments.{value_of}
 
 pub slot_cmp_total : IsTotalOrder slot_cmp
 slot_cmp_total = search (comparing, rules)
@@ -38,42 +37,6 @@ sorted_insert {R} t (e ∷ es) k v h =
       | Equal ↦ (λ is. h)
       | Greater ↦ (λ is. (all_insert R _ es k v h.0 (t.antisymm e.0 k ∙ ap ordering_reverse is), sorted_insert t es k v h.1))
     ] refl
-
--- at the place of a slot that is there
-pub put_there : (es : List (Slot × Datum)) (k : Slot) (v : Datum) (d : Slot × Datum) → is_there k es ≡ true
-    → set es (place_of k es) ((get_or es (place_of k es) d).0, v) ≡ insert_entry slot_cmp es k v
-put_there [] k v d is = absurd (false≢true is)
-put_there (e ∷ es) k v d is =
-    elim (slot_cmp k e.0) as (λ o. match_ordering o false true (is_there k es) ≡ true
-    → set (e ∷ es) (match_ordering o 0 0 (suc (place_of k es))) ((get_or (e ∷ es) (match_ordering o 0 0 (suc (place_of k es))) d).0, v) ≡ match_ordering o ((k, v) ∷ e ∷ es) ((e.0, v) ∷ es) (e ∷ insert_entry slot_cmp es k v)) [
-      | Less ↦ (λ i. absurd (false≢true i))
-      | Equal ↦ (λ i. refl)
-      | Greater ↦ (λ i. ap (λ r. e ∷ r) (put_there es k v d i))
-    ] is
-
-pub there_within : (es : List (Slot × Datum)) (k : Slot) → is_there k es ≡ true → place_of k es < length es
-there_within [] k is = absurd (false≢true is)
-there_within (e ∷ es) k is =
-    elim (slot_cmp k e.0) as (λ o. match_ordering o false true (is_there k es) ≡ true → match_ordering o 0 0 (suc (place_of k es)) < length (e ∷ es))
-    [ Less ↦ (λ i. omega arith) | Equal ↦ (λ i. omega arith) | Greater ↦ (λ i. omega (arith, there_within es k i)) ] is
-
--- at the place of a slot that is not
-pub put_new : (es : List (Slot × Datum)) (k : Slot) (v : Datum) → is_there k es ≡ false → insert es (place_of k es) (k, v) ≡ insert_entry slot_cmp es k v
-put_new [] k v other = refl
-put_new (e ∷ es) k v other =
-    elim (slot_cmp k e.0) as (λ o. match_ordering o false true (is_there k es) ≡ false
-    → insert (e ∷ es) (match_ordering o 0 0 (suc (place_of k es))) (k, v) ≡ match_ordering o ((k, v) ∷ e ∷ es) ((e.0, v) ∷ es) (e ∷ insert_entry slot_cmp es k v)) [
-      | Less ↦ (λ i. refl)
-      | Equal ↦ (λ i. absurd (true≢false i))
-      | Greater ↦ (λ i. ap (λ r. e ∷ r) (put_new es k v i))
-    ] other
-
--- the same, at the entry that was read there
-pub put_seen : (es : List (Slot × Datum)) (k : Slot) (v : Datum) (i : ℕ) (e : Slot × Datum) → i ≡ place_of k es → is_there k es ≡ true → e ≡ get_or es i e → set es i (e.0, v) ≡ insert_entry slot_cmp es k v
-put_seen es k v i e at there is =
-    let P : ℕ → Type 0 = λ j. set es j ((get_or es j e).0, v) ≡ insert_entry slot_cmp es k v in
-    let Q : Slot × Datum → Type 0 = λ x. set es i (x.0, v) ≡ insert_entry slot_cmp es k v in
-    subst Q (sym is) (subst P (sym at) (put_there es k v e there))
 
 same_place : (s e t : Slot) → slot_cmp s e ≡ Equal → slot_cmp t s ≡ slot_cmp t e
 same_place s e t is = slot_cmp_total.antisymm t s ∙ ap ordering_reverse (slot_cmp_total.congr s e t is) ∙ sym (slot_cmp_total.antisymm t e)

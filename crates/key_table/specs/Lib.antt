@@ -1,10 +1,14 @@
 pub mod Answers
+pub mod Atoms
 pub mod BuiltIn
 pub mod KeyViews
 pub mod NameLists
+pub mod Names
+pub mod Options
 pub mod Payments
 pub mod Places
 pub mod Slots
+pub mod TableFiles
 pub mod Tables
 pub mod Texts
 pub mod formers

@@ -1,16 +1,52 @@
--- Where a slot stands among entries in ascending order.
-use Rattle.std.specs.Prelude.{ℕ, suc, [], ◌∷◌, Bool, true, false}
-use Rattle.std.specs.Ordering.{match_ordering}
+-- Where a slot stands among entries in ascending order, and such entries cut into runs.
+use Rattle.std.specs.Prelude.{◌≡◌, ℕ, ◌<◌, ◌≤◌, Bool, List, length, take, drop, slice_index_or, Result, Ok, Err, Vec}
+use Rattle.std.specs.List.{flat_map, list_all, All, AllByRecursion}
+use Rattle.std.specs.declared.alloc.Global.{Global}
+use Rattle.std.specs.declared.cmp.Ordering.TheVariants.{Less, Equal, Greater}
 use Rattle.key_table.specs.declared.slot.Slot.{Slot}
+use Rattle.key_table.specs.declared.slot.Datum.{Datum}
 use Rattle.key_table.specs.Slots.{slot_cmp}
-use Rattle.key_table.specs.Payments.{Entries}
+use Rattle.key_table.specs.Tables.{Table}
+use Rattle.key_table.specs.Payments.{Entries, AreAscending, is_legal}
 
--- how many entries stand before it
-abbrev pub place_of : Slot → Entries → ℕ
-place_of slot [] = 0
-place_of slot (e ∷ es) = match_ordering (slot_cmp slot e.0) 0 0 (suc (place_of slot es))
+-- Each entry stands before the slot.
+abbrev pub AreBefore : Slot → Entries → Type 0
+AreBefore slot entries = AllByRecursion (λ (e : Slot × Datum). slot_cmp slot e.0 ≡ Greater) entries
 
--- whether it is one of them
-abbrev pub is_there : Slot → Entries → Bool
-is_there slot [] = false
-is_there slot (e ∷ es) = match_ordering (slot_cmp slot e.0) false true (is_there slot es)
+-- Each entry stands after the slot.
+abbrev pub AreAfter : Slot → Entries → Type 0
+AreAfter slot entries = AllByRecursion (λ (e : Slot × Datum). slot_cmp slot e.0 ≡ Less) entries
+
+-- The slot stands at the place.
+pub record StandsAt (slot : Slot) (entries : Entries) (place : ℕ) : Type 0 where
+  pub within : place < length entries
+  pub before : AreBefore slot (take place entries)
+  pub same : (d : Slot × Datum) → slot_cmp slot (slice_index_or entries place d).0 ≡ Equal
+
+-- The slot is not there, and goes to the place.
+pub record GoesTo (slot : Slot) (entries : Entries) (place : ℕ) : Type 0 where
+  pub within : place ≤ length entries
+  pub before : AreBefore slot (take place entries)
+  pub after : AreAfter slot (drop place entries)
+
+-- The place where the slot stands, or to which it goes.
+abbrev pub IsPlace : Slot → Entries → Result ℕ ℕ → Type 0
+IsPlace slot entries (Ok place) = StandsAt slot entries place
+IsPlace slot entries (Err place) = GoesTo slot entries place
+
+-- some entries that stand next to each other
+abbrev pub Run : Type 0
+Run = Vec (Slot × Datum) Global
+
+-- the entries of the runs, one run after another
+abbrev pub entries_of : List Run → Entries
+entries_of runs = flat_map (λ (run : Run). run.items) runs
+
+-- whether each entry of each run fits the table
+abbrev pub are_legal : Table → List Run → Bool
+are_legal table runs = list_all (λ (run : Run). is_legal table run.items) runs
+
+-- The entries ascend through the runs, and no run is empty.
+pub record AreRuns (runs : List Run) : Type 0 where
+  pub ascending : AreAscending (entries_of runs)
+  pub filled : All (λ (run : Run). 0 < length run.items) runs

@@ -1,5 +1,7 @@
-ghost use Rattle.std.specs.Prelude.{◌≡◌, ◌≤◌, ◌<◌, ◌+◌, ◌++◌, length, [], map, OnOk, IfOk};
+ghost use Rattle.std.specs.Prelude.{◌≡◌, ◌≤◌, ◌<◌, ◌+◌, ◌++◌, length, [], map, OnOk, IfOk, true};
+ghost use Rattle.std.specs.List.{list_all};
 ghost use Rattle.key_table.specs.Tables.{variants};
+ghost use Rattle.key_table.specs.Names.{is_name};
 ghost use Rattle.key_table.specs.BuiltIn.{method_keys, enum_keys, built_in};
 ghost use Rattle.key_table.specs.NameLists.{with_key, with_names};
 
@@ -12,6 +14,8 @@ use std::alloc::Global;
 fn add_enum(alloc: Global, table: &mut KeyTable, name: &str, words: &[&str]) -> Result<(), NoMemory>
     requires room { length table.old < 256 }
     requires few { length words.now ≤ 1024 }
+    requires named { is_name name.now ≡ true }
+    requires words_named { list_all is_name (map (λ w. w.now) words.now) ≡ true }
     ensures ok { OnOk result (table.new ≡ with_key table.old name.now (variants (with_names (map (λ w. w.now) words.now)))) }
     ensures count { length table.new ≤ length table.old + 1 }
 {

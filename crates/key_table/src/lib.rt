@@ -10,9 +10,10 @@ mod seq;
 mod slot;
 mod stop;
 mod table;
+mod table_file;
 mod text;
 
-pub use atom::{Atom, Op, Test, Verdict3};
+pub use atom::{Atom, Op, Test, Verdict3, atom_holds, option_law};
 pub use key::Kind;
 pub use payment::{Payment, put_law};
 pub use seq::Seq;

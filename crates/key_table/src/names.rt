@@ -1,5 +1,7 @@
-ghost use Rattle.std.specs.Prelude.{◌≡◌, ◌<◌, ◌≤◌, ◌+◌, [], length, map, bytes_eq, position, slice_get, Some, IfSome, IfOk, OnOk, OnErr};
+ghost use Rattle.std.specs.Prelude.{◌≡◌, ◌<◌, ◌≤◌, ◌+◌, [], length, map, bytes_eq, position, slice_get, Some, IfSome, IfOk, OnOk, OnErr, true, not};
+ghost use Rattle.std.specs.List.{list_all};
 ghost use Rattle.key_table.specs.NameLists.{with_name, with_names};
+ghost use Rattle.key_table.specs.Names.{is_name, is_among, are_names};
 
 use crate::NoMemory;
 use indexmap::IndexSet;
@@ -13,13 +15,15 @@ pub(crate) struct Names {
 }
 
 impl Model for Names {
-    ghost use Rattle.std.specs.Prelude.{ℕ, List, map, length, ◌≤◌};
+    ghost use Rattle.std.specs.Prelude.{◌≡◌, ℕ, List, map, length, ◌≤◌, true};
 
     ghost Value = { List (List ℕ) };
 
     ghost view = { λ n. map (λ v. v.items) n.names.keys };
 
-    ghost invariant = { λ n. length n.names.keys ≤ 1024 };
+    ghost use Rattle.key_table.specs.Names.{are_names};
+
+    ghost invariant = { λ n. (length n.names.keys ≤ 1024) × (are_names (map (λ v. v.items) n.names.keys) ≡ true) };
 }
 
 impl Names {
@@ -33,7 +37,8 @@ impl Names {
 
     /// The names of `words`, in their order.
     pub(crate) fn of(alloc: Global, words: &[&str]) -> Result<Names, NoMemory>
-        requires { length words.now ≤ 1024 }
+        requires few { length words.now ≤ 1024 }
+        requires named { list_all is_name (map (λ w. w.now) words.now) ≡ true }
         ensures { IfOk result (λ n. n ≡ with_names (map (λ w. w.now) words.now)) }
     {
         let mut names = Names::new(alloc);
@@ -43,19 +48,22 @@ impl Names {
         Ok(names)
     }
 
-    /// Adds the name last, unless it is there.
-    pub(crate) fn add(&mut self, alloc: Global, name: &str) -> Result<(), NoMemory>
-        requires { length self.old < 1024 }
+    /// Adds the name last, unless it is there, and says whether it is new.
+    pub(crate) fn add(&mut self, alloc: Global, name: &str) -> Result<bool, NoMemory>
+        requires room { length self.old < 1024 }
+        requires named { is_name name.now ≡ true }
         ensures ok { OnOk result (self.new ≡ with_name self.old name.now) }
+        ensures is_new { IfOk result (λ is_new. is_new ≡ not (is_among name.now self.old)) }
         ensures count { length self.new ≤ length self.old + 1 }
     {
-        self.names.insert(Vec::from_slice(alloc, name.as_bytes())?)?;
-        Ok(())
+        let name = Vec::from_slice(alloc, name.as_bytes())?;
+        Ok(self.names.insert(name)?)
     }
 
     pub(crate) fn count(&self) -> u32
         ensures value { result ≡ length self.now }
         ensures most { length self.now ≤ 1024 }
+        ensures named { are_names self.now ≡ true }
     {
         self.names.len() as u32
     }

@@ -1,9 +1,11 @@
-ghost use Rattle.std.specs.Prelude.{◌≡◌, ◌<◌, ◌≤◌, ◌+◌, [], length, Some, None, IsSome, IfSome, slice_get, option_map, OnOk, OnErr};
-ghost use Rattle.key_table.specs.Tables.{find_key, name_at, domain_at, kind_of, variants_at, find_variant, bounds_at, datum_fits};
+ghost use Rattle.std.specs.Prelude.{◌≡◌, ◌<◌, ◌≤◌, ◌+◌, [], length, Some, None, IfSome, slice_get, option_map, OnOk, OnErr, true};
+ghost use Rattle.key_table.specs.Tables.{names_in, find_key, name_at, domain_at, kind_at, variants_at, find_variant, bounds_at, is_domain, is_table, datum_fits};
 ghost use Rattle.key_table.specs.NameLists.{with_key};
+ghost use Rattle.key_table.specs.Names.{is_name, is_among};
+ghost use Rattle.key_table.specs.Atoms.{atom_fits};
 
 use crate::key::Domain;
-use crate::{Datum, Kind, NoMemory, Slot};
+use crate::{Atom, Datum, Kind, NoMemory, Slot};
 use indexmap::IndexMap;
 use std::alloc::Global;
 use std::marker::Model;
@@ -25,8 +27,8 @@ pub struct KeyTable {
 }
 
 impl Model for KeyTable {
-    ghost use Rattle.std.specs.Prelude.{map, length, ◌≤◌};
-    ghost use Rattle.key_table.specs.Tables.{Table};
+    ghost use Rattle.std.specs.Prelude.{◌≡◌, map, length, ◌≤◌, true};
+    ghost use Rattle.key_table.specs.Tables.{Table, is_table};
 
     ghost Value = { Table };
 
@@ -34,7 +36,7 @@ impl Model for KeyTable {
 
     ghost view = { λ t. map key_view t.keys.entries };
 
-    ghost invariant = { λ t. length t.keys.entries ≤ 256 };
+    ghost invariant = { λ t. (length t.keys.entries ≤ 256) × (is_table (map key_view t.keys.entries) ≡ true) };
 }
 
 impl KeyTable {
@@ -50,7 +52,9 @@ impl KeyTable {
 
     /// Gives the key this domain. A new key goes last.
     pub(crate) fn add(&mut self, alloc: Global, name: &str, domain: Domain) -> Result<(), NoMemory>
-        requires { length self.old < 256 }
+        requires room { length self.old < 256 }
+        requires named { is_name name.now ≡ true }
+        requires well_made { is_domain (domain_view domain) ≡ true }
         ensures ok { OnOk result (self.new ≡ with_key self.old name.now (domain_view domain)) }
         ensures count { length self.new ≤ length self.old + 1 }
     {
@@ -73,6 +77,7 @@ impl KeyTable {
     pub fn count(&self) -> u32
         ensures value { result ≡ length self.now }
         ensures most { length self.now ≤ 256 }
+        ensures well_made { is_table self.now ≡ true }
     {
         self.keys.len() as u32
     }
@@ -86,6 +91,13 @@ impl KeyTable {
             Some(key) => Some(key as u32),
             None => None,
         }
+    }
+
+    /// Whether a key has the name.
+    pub(crate) fn has(&self, name: &[u8]) -> bool
+        ensures { result ≡ is_among name.now (names_in self.now) }
+    {
+        self.find(name).is_some()
     }
 
     /// The name of a key.
@@ -102,13 +114,10 @@ impl KeyTable {
     /// The kind of a key.
     pub fn kind_of(&self, key: u32) -> Kind
         requires { key < length self.now }
-        ensures { option_map kind_of (domain_at key self.now) ≡ Some result }
+        ensures { kind_at key self.now ≡ Some result }
     {
         match self.domain(key) {
-            Some(Domain::Enum(_)) => Kind::Enum,
-            Some(Domain::Number(_, _)) => Kind::Number,
-            Some(Domain::Text) => Kind::Text,
-            Some(Domain::Metadata) => Kind::Metadata,
+            Some(domain) => domain.kind(),
             None => unreachable!(),
         }
     }
@@ -148,7 +157,7 @@ impl KeyTable {
 
     /// The least and the greatest legal number of a number key.
     pub fn bounds(&self, key: u32) -> (i64, i64)
-        requires { IsSome (bounds_at key self.now) }
+        requires { kind_at key self.now ≡ Some Kind.Number }
         ensures { bounds_at key self.now ≡ Some result }
     {
         match self.domain(key) {
@@ -163,16 +172,21 @@ impl KeyTable {
     pub fn datum_fits(&self, slot: &Slot, datum: &Datum) -> bool
         ensures { result ≡ datum_fits self.now slot.now datum.now }
     {
-        match (self.domain(slot.key), &slot.sub, datum) {
-            (Some(Domain::Enum(names)), None, Datum::Variant(variant)) => *variant < names.count(),
-            (Some(Domain::Number(least, greatest)), None, Datum::Number(number)) => {
-                *least <= *number && *number <= *greatest
-            }
-            (Some(Domain::Text), None, Datum::Text(text)) => text.as_bytes().len() <= 1024,
-            (Some(Domain::Metadata), Some(sub), Datum::Text(text)) => {
-                sub.as_bytes().len() <= 255 && text.as_bytes().len() <= 1024
-            }
-            _ => false,
+        match self.domain(slot.key) {
+            Some(domain) => domain.has_sub(slot.sub.as_ref()) && domain.allows(datum),
+            None => false,
+        }
+    }
+
+    /// Whether the atom fits: its slot is legal, each test has the kind of its key, each variant is one of the key,
+    /// each text has at most 255 bytes, and there are at most 4,096 tests. Numbers in tests may lie outside the bounds.
+    pub fn atom_fits(&self, atom: &Atom) -> bool
+        ensures { result ≡ atom_fits self.now atom.now }
+    {
+        match self.domain(atom.slot.key) {
+            Some(domain) => domain.has_sub(atom.slot.sub.as_ref())
+                && domain.fits_all(atom.tests.as_slice()),
+            None => false,
         }
     }
 }

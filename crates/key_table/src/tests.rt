@@ -277,10 +277,9 @@ fn stands(payment: &Payment, place: usize, key: u32, sub: Option<&str>, value: V
         && is(payment.datum_of(place), value)
 }
 
-#[test]
-fn slots_of_a_payment(rt: HostRuntime) -> Result<(), Fail> {
+// A payment whose slots were put last, first, between, over one that was there, and by sub names.
+fn filled(rt: &impl AllocGlobal) -> Result<Payment, Fail> {
     let mut payment = Payment::empty(rt.alloc());
-    // last, first, between, over, and by sub names
     let puts = [
         (10, Some("b"), Value::Letters(3)),
         (0, None, Value::Variant(1)),
@@ -292,8 +291,14 @@ fn slots_of_a_payment(rt: HostRuntime) -> Result<(), Fail> {
         (10, Some("\u{e9}"), Value::Letters(4)),
     ];
     for (key, sub, value) in puts {
-        payment.put(slot(&rt, key, sub)?, datum(&rt, value)?)?;
+        payment.put(slot(rt, key, sub)?, datum(rt, value)?)?;
     }
+    Ok(payment)
+}
+
+#[test]
+fn slots_of_a_payment(rt: HostRuntime) -> Result<(), Fail> {
+    let payment = filled(&rt)?;
     let ascending = [
         (0, 0, None, Value::Variant(1)),
         (1, 5, None, Value::Variant(2)),
@@ -314,6 +319,12 @@ fn slots_of_a_payment(rt: HostRuntime) -> Result<(), Fail> {
             "at {key} and {sub:?}"
         );
     }
+    Ok(())
+}
+
+#[test]
+fn slots_that_are_not_there(rt: HostRuntime) -> Result<(), Fail> {
+    let payment = filled(&rt)?;
     for (key, sub) in [
         (1, None),
         (0, Some("a")),
@@ -323,6 +334,56 @@ fn slots_of_a_payment(rt: HostRuntime) -> Result<(), Fail> {
     ] {
         assert!(rt; is_absent(&rt, &payment, key, sub)?, "at {key} and {sub:?}");
     }
+    Ok(())
+}
+
+#[test]
+fn sub_names_in_falling_order(rt: HostRuntime) -> Result<(), Fail> {
+    let mut payment = Payment::empty(rt.alloc());
+    // a number as a sub name, under one of three keys
+    for number in (1000..2100_u32).rev() {
+        let name = format!(in rt.alloc(); "{number}")?;
+        let slot = slot(&rt, 10 + number % 3, Some(&name))?;
+        payment.put(slot, Datum::Number(i64::from(number)))?;
+    }
+    assert_eq!(rt; payment.count(), 1100);
+    // the 366 multiples of 3, then the 367 numbers that leave 1, then the 367 that leave 2
+    let ascending = [
+        (0, 10, "1002", 1002),
+        (1, 10, "1005", 1005),
+        (365, 10, "2097", 2097),
+        (366, 11, "1000", 1000),
+        (549, 11, "1549", 1549),
+        (732, 11, "2098", 2098),
+        (733, 12, "1001", 1001),
+        (1099, 12, "2099", 2099),
+    ];
+    for (place, key, name, number) in ascending {
+        let (sub, value) = (Some(name), Value::Number(number));
+        assert!(rt;
+            stands(&payment, place, key, sub, value),
+            "at place {place}"
+        );
+        assert!(rt;
+            is_at(&rt, &payment, key, sub, value)?,
+            "at {key} and {name}"
+        );
+    }
+    for (key, name) in [
+        (9, "1000"),
+        (10, "1000"),
+        (11, "999"),
+        (12, "2102"),
+        (13, "1000"),
+    ] {
+        assert!(rt;
+            is_absent(&rt, &payment, key, Some(name))?,
+            "at {key} and {name}"
+        );
+    }
+    payment.put(slot(&rt, 11, Some("1549"))?, Datum::Number(-1))?;
+    assert_eq!(rt; payment.count(), 1100);
+    assert!(rt; stands(&payment, 549, 11, Some("1549"), Value::Number(-1)));
     Ok(())
 }
 
