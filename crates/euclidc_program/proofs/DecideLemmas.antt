@@ -9,7 +9,7 @@ use Rattle.euclid_ast.specs.declared.program.Program.{Program}
 use Rattle.json_program.specs.Programs as json
 use Rattle.euclidc_program.specs.Runs.{Run, End, goes, ◌>>=◌, ending, judged, file, limit}
 use Rattle.euclidc_program.specs.Stages.{Among}
-use Rattle.euclidc_program.specs.PlainPayments.{plain_payment_of}
+use Rattle.payment_reader.specs.Reading.{payment_of}
 use Rattle.euclidc_program.specs.ProgramFiles as programs
 use Rattle.euclidc_program.specs.ProgramFiles.{program_file}
 use Rattle.euclidc_program.specs.PaymentFiles as payments
@@ -30,7 +30,7 @@ payment_text : Name → Files → Run (List ℕ)
 payment_text pay files = file (codes "toolong payment\n") limit pay files
 
 payment_read : Table → List ℕ → Run Entries
-payment_read table bytes = ending (judged (payments.or_refused (plain_payment_of table bytes)))
+payment_read table bytes = ending (judged (payments.or_refused (payment_of table bytes)))
 
 all_read : Table → Program → Entries → Run (Table × Program × Entries)
 all_read table program payment = ending (goes (table, program, payment))

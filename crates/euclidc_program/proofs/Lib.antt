@@ -1,7 +1,6 @@
 pub mod Joined
 pub mod Faults
 pub mod Meetings
-pub mod Members
 pub mod Numbers
 pub mod RunLemmas
 pub mod DecideLemmas

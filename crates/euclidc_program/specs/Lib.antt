@@ -3,7 +3,6 @@ pub mod Commands
 pub mod Decide
 pub mod Decisions
 pub mod PaymentFiles
-pub mod PlainPayments
 pub mod ProgramFiles
 pub mod Refusals
 pub mod Runs

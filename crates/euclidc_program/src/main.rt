@@ -6,7 +6,6 @@ mod command;
 mod decide;
 mod decision;
 mod file;
-mod payment;
 mod payment_file;
 mod program_file;
 mod refusal;

@@ -1,12 +1,14 @@
 ghost use Rattle.std.specs.Prelude.{[], ◌∷◌};
-ghost use Rattle.euclidc_program.specs.PaymentFiles.{payment_file};
-ghost use Rattle.euclidc_program.specs.Stages.{Gives};
+ghost use Rattle.euclidc_program.specs.declared.status.Verdict.TheVariants.{Refused};
+ghost use Rattle.euclidc_program.specs.PaymentFiles.{payment_refusal, payment_file};
+ghost use Rattle.euclidc_program.specs.Stages.{Gives, HaltsWith};
 
 use crate::answer::Halt;
 use crate::file::{LIMIT, read_file};
-use crate::payment::plain_payment;
-use crate::status::Verdict;
-use key_table::{KeyTable, Payment, Stop};
+use crate::refusal::refused;
+use json_program::write_string;
+use key_table::{KeyTable, NoMemory, Payment, Stop};
+use payment_reader::PaymentError;
 use shelf_io::Shelf;
 use std::alloc::Global;
 
@@ -20,13 +22,19 @@ pub fn read_payment<F: Shelf>(
     ensures { Gives (λ p. p) (payment_file table.now name.now) (name.now ∷ []) (F.seen shelf.old) (F.seen shelf.new) result }
 {
     let bytes = read_file(alloc, shelf, name, LIMIT, "toolong payment\n")?;
-    match plain_payment(alloc, table, &bytes) {
+    match payment_reader::read_payment(alloc, table, &bytes) {
         Ok(payment) => Ok(payment),
         Err(Stop::Memory) => Err(Halt::NoMemory),
-        Err(Stop::Fault(_)) => Err(Halt::with(
-            alloc,
-            "refused payment unbuilt\n",
-            Verdict::Refused,
-        )),
+        Err(Stop::Fault(error)) => Err(refused_payment(alloc, &error)),
+    }
+}
+
+// The refusal of a payment file.
+fn refused_payment(alloc: Global, error: &PaymentError) -> Halt
+    ensures { HaltsWith result (payment_refusal error.now) Refused }
+{
+    match write_string(alloc, &error.path) {
+        Ok(path) => refused(alloc, "payment", error.code, path.as_str()),
+        Err(NoMemory) => Halt::NoMemory,
     }
 }

@@ -54,15 +54,6 @@ fn run(
     Ok(euclidc(rt.alloc(), &owned, shelf, out))
 }
 
-// The program, followed by spaces up to so many bytes.
-fn padded(rt: &impl AllocGlobal, length: usize) -> Result<String, Fail> {
-    let mut text = String::from_str(rt.alloc(), PROGRAM)?;
-    for _ in text.len()..length {
-        text.push(' ')?;
-    }
-    Ok(text)
-}
-
 // Words, each list after its status and with `_` for an empty word. No file is read for them.
 const WORDS: &str = "2 _
 2 decide -
@@ -159,21 +150,37 @@ PAY {"payment_method":"wallet","payment_method":"card"}
 P {"defaultSelection":{"type":"none"},"rules":[]}
 PAY [
 ===
-3 refused payment unbuilt
+0 default
 P *
-PAY {"amount":5}
+PAY {"amount":5,"card_bin":"4242","metadata":{"tier":"gold"}}
 ===
-3 refused payment unbuilt
+3 refused payment 1 ""
 P *
-PAY {"colour":null}
+PAY [
 ===
-3 refused payment unbuilt
+3 refused payment 3 ""
+P *
+PAY []
+===
+3 refused payment 3 "/metadata/a\"~1b"
+P *
+PAY {"metadata":{"a\"/b":1}}
+===
+3 refused payment 4 "/amount"
+P *
+PAY {"amount":1.5}
+===
+3 refused payment 6 "/colour"
+P *
+PAY {"zone":1,"colour":null}
+===
+3 refused payment 7 "/payment_method"
 P *
 PAY {"payment_method":"Card"}
 ===
-3 refused payment unbuilt
+3 refused payment 8 "/amount"
 P *
-PAY []
+PAY {"amount":-1}
 ===
 0 rule 0 "cards"
 K key = [{ name = "payment_method", kind = "enum", variants = ["cash", "card"] }]
@@ -190,7 +197,7 @@ K other = 1
 P *
 PAY {}
 ===
-3 refused payment unbuilt
+3 refused payment 6 "/payment_method"
 K other = 1
 P *
 PAY {"payment_method":"card"}
@@ -232,6 +239,18 @@ PAY {}
 K other = 1
 P ?
 PAY {}
+===
+5 nothing
+P ?
+PAY [
+===
+5 nothing
+P *
+PAY ?
+===
+3 refused program unbuilt
+P [
+PAY ?
 "#;
 
 // A shelf with the files of a case.
@@ -272,66 +291,57 @@ fn files_are_judged_in_order(rt: HostRuntime) -> Result<(), Fail> {
     Ok(())
 }
 
+// A shelf with a table without keys, the program and an empty payment, of which one has spaces at its end up to so many
+// bytes.
+fn padded(rt: &impl AllocGlobal, long: &str, length: usize) -> Result<MemShelf, Fail> {
+    let mut shelf = MemShelf::new(rt.alloc());
+    for (name, text) in [("K", "other = 1"), ("P", PROGRAM), ("PAY", "{}")] {
+        let mut file = String::from_str(rt.alloc(), text)?;
+        if name == long {
+            for _ in text.len()..length {
+                file.push(' ')?;
+            }
+        }
+        shelf.add(name, file.as_bytes())?;
+    }
+    Ok(shelf)
+}
+
 #[test]
 fn files_are_read_up_to_their_limit(rt: HostRuntime) -> Result<(), Fail> {
-    let most = padded(&rt, 1_048_576)?;
-    let more = padded(&rt, 1_048_577)?;
-    let cases: [(&str, &str, Status, &str); 5] = [
-        (most.as_str(), CARD, Status::Done, RULE_0),
-        (more.as_str(), CARD, Status::TooLong, "toolong program\n"),
-        (
-            more.as_str(),
-            more.as_str(),
-            Status::TooLong,
-            "toolong program\n",
-        ),
-        (
-            PROGRAM,
-            most.as_str(),
-            Status::Refused,
-            "refused payment unbuilt\n",
-        ),
-        (PROGRAM, more.as_str(), Status::TooLong, "toolong payment\n"),
+    let cases = [
+        ("K", "4 toolong table"),
+        ("P", "4 toolong program"),
+        ("PAY", "4 toolong payment"),
     ];
-    for (program, payment, status, text) in cases {
-        let mut shelf = shelf(&rt, &[("P", program), ("PAY", payment)])?;
-        let mut out = sink(&rt, None)?;
-        assert_eq!(&rt; run(&rt, &DECIDE, &mut shelf, &mut out)?, status);
-        assert_eq!(&rt; out.bytes(), text.as_bytes());
+    for (name, wanted) in cases {
+        let found = outcome(&rt, &DECIDE_BY_FILE, &mut padded(&rt, name, 1_048_576)?)?;
+        assert_eq!(&rt; found.as_str(), "0 default", "at {name}");
+        let found = outcome(&rt, &DECIDE_BY_FILE, &mut padded(&rt, name, 1_048_577)?)?;
+        assert_eq!(&rt; found.as_str(), wanted, "at {name}");
     }
     Ok(())
 }
 
 #[test]
 fn reads_fail_in_turn(rt: HostRuntime) -> Result<(), Fail> {
-    // Each read that fails, or a file that is not held; and how many faults the shelf then counts.
-    let cases: [(Option<u32>, &[(&str, &str)], Status, u64); 7] = [
-        (Some(0), HELD, Status::ReadFault, 1),
-        (Some(1), HELD, Status::ReadFault, 1),
-        (Some(2), HELD, Status::Done, 0),
-        (None, &[("P", PROGRAM)], Status::ReadFault, 0),
-        (None, &[("PAY", CARD)], Status::ReadFault, 0),
-        (None, &[("P", "[")], Status::Refused, 0),
-        (Some(1), &[("P", "[")], Status::Refused, 0),
+    let cases = [
+        (DECIDE, "P *\nPAY {}\n", 2),
+        (DECIDE_BY_FILE, "K other = 1\nP *\nPAY {}\n", 3),
     ];
-    for (number, (failing, files, status, faults)) in cases.into_iter().enumerate() {
-        let mut shelf = shelf(&rt, files)?;
-        if let Some(read) = failing {
+    for (words, files, reads) in cases {
+        for read in 0..=reads {
+            let mut shelf = shelf_of(&rt, files)?;
             shelf.fail_at(read)?;
+            let found = outcome(&rt, &words, &mut shelf)?;
+            let (wanted, faults) = if read < reads {
+                ("5 nothing", 1)
+            } else {
+                ("0 default", 0)
+            };
+            assert_eq!(&rt; found.as_str(), wanted, "at {read} of {files}");
+            assert_eq!(&rt; shelf.faults(), faults, "at {read} of {files}");
         }
-        let mut out = sink(&rt, None)?;
-        assert_eq!(&rt;
-            run(&rt, &DECIDE, &mut shelf, &mut out)?,
-            status,
-            "at {number}"
-        );
-        assert_eq!(&rt; shelf.faults(), faults, "at {number}");
-        let text = match status {
-            Status::Done => RULE_0,
-            Status::Refused => "refused program unbuilt\n",
-            _ => "",
-        };
-        assert_eq!(&rt; out.bytes(), text.as_bytes(), "at {number}");
     }
     Ok(())
 }
@@ -354,7 +364,7 @@ fn the_sink_stops_after_each_byte(rt: HostRuntime) -> Result<(), Fail> {
     let cases: [(&[&str], &str, &str, Status); 4] = [
         (&DECIDE, CARD, RULE_0, Status::Done),
         (&DECIDE, "{}", DEFAULT, Status::Done),
-        (&DECIDE, "[", "refused payment unbuilt\n", Status::Refused),
+        (&DECIDE, "[", "refused payment 1 \"\"\n", Status::Refused),
         (&["decide"], "{}", USAGE, Status::Usage),
     ];
     for (words, payment, text, status) in cases {

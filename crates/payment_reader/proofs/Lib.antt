@@ -1,0 +1,9 @@
+pub mod Distinct
+pub mod Entries
+pub mod Follows
+pub mod Members
+pub mod Names
+pub mod Places
+pub mod ReadsBack
+pub mod Slots
+pub mod WrittenLemmas
