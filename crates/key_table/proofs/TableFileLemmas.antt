@@ -12,7 +12,8 @@ use Rattle.toml.specs.declared.value.Value.{Value, Table as TableCase, the_lemma
 use Rattle.key_table.specs.declared.table.TableError.{TableError}
 use Rattle.key_table.specs.declared.stop.Stop.{Stop}
 use Rattle.key_table.specs.Answers.{◌>>=◌, Fails, fails_through}
-use Rattle.key_table.specs.TableFiles.{not_toml, fault, or_fault, document_of, listed, in_turn, name_added, variants_of, key_added, keys_under}
+use Rattle.key_table.specs.Answers.{or_fault}
+use Rattle.key_table.specs.TableFiles.{not_toml, fault, document_of, listed, in_turn, name_added, variants_of, key_added, keys_under}
 
 view-table : (m : BTreeMap (String Global) Value) → view (TableCase m) ≡ table (table_view m)
 view-table m = search (rules, the_lemmas)

@@ -1,5 +1,5 @@
 -- What a call answers, want of memory aside.
-use Rattle.std.specs.Prelude.{◌≡◌, Result, Ok, Err}
+use Rattle.std.specs.Prelude.{◌≡◌, Bool, true, false, Option, Some, None, Result, Ok, Err, ⊤}
 use Rattle.std.proofs.Common.{ap, ◌∙◌}
 use Rattle.key_table.specs.declared.stop.Stop.{Stop}
 use Rattle.key_table.specs.declared.stop.Stop.TheVariants.{Memory, Fault}
@@ -9,6 +9,16 @@ infixl 10 ◌>>=◌
 abbrev pub ◌>>=◌ : {A B E : Type 0} → Result A E → (A → Result B E) → Result B E
 (Ok x) >>= f = f x
 (Err e) >>= f = Err e
+
+-- what is there, or else the fault
+abbrev pub or_fault : {A E : Type 0} → E → Option A → Result A E
+or_fault fault None = Err fault
+or_fault fault (Some x) = Ok x
+
+-- nothing where the condition holds, and else the fault
+abbrev pub provided : {E : Type 0} → E → Bool → Result ⊤ E
+provided fault true = Ok tt
+provided fault false = Err fault
 
 -- A call stopped with the fault that is right, or there was no memory.
 abbrev pub Fails : {Y E : Type 0} → Stop E → Result Y E → Type 0

@@ -4,7 +4,7 @@ use Rattle.std.specs.Str.{is_utf8}
 use Rattle.toml.specs.Data.{Data, table, Items, no_items, item, get, as_str, as_integer, as_array, as_table}
 use Rattle.toml.specs.Parse.{parse_document}
 use Rattle.key_table.specs.declared.table.TableError.{TableError}
-use Rattle.key_table.specs.Answers.{◌>>=◌}
+use Rattle.key_table.specs.Answers.{◌>>=◌, or_fault, provided}
 use Rattle.key_table.specs.Names.{is_word, is_among}
 use Rattle.key_table.specs.Tables.{Domain, variants, bounds, text, metadata, Key, Table, names_in}
 
@@ -15,15 +15,6 @@ not_toml = record { code = 1; key = None }
 -- a fault of the key with this number
 abbrev pub fault : ℕ → ℕ → TableError
 fault code key = record { code = code; key = Some key }
-
--- what is there, or else the fault
-abbrev pub or_fault : {A : Type 0} → TableError → Option A → Result A TableError
-or_fault error None = Err error
-or_fault error (Some x) = Ok x
-
-abbrev pub provided : TableError → Bool → Result ⊤ TableError
-provided error true = Ok tt
-provided error false = Err error
 
 -- the document that the bytes are
 abbrev pub document_of : List ℕ → Result Data TableError

@@ -7,7 +7,7 @@ use crate::{Datum, NoMemory, Payment, Seq, Slot, Text};
 use std::alloc::Global;
 
 /// How a number compares with another.
-#[derive(Clone, Copy, Debug, PartialEq, Eq)]
+#[derive(Clone, Copy, Debug, PartialEq, Eq, PartialOrd, Ord, Hash)]
 pub enum Op {
     Equal,
     NotEqual,
@@ -18,7 +18,7 @@ pub enum Op {
 }
 
 /// A test of a value: that it is this variant or this text, or a number with this relation to the given one.
-#[derive(Debug, Drop)]
+#[derive(Debug, PartialEq, Eq, PartialOrd, Ord, Hash, Drop)]
 pub enum Test {
     Variant(u32),
     Text(Text),
@@ -27,7 +27,7 @@ pub enum Test {
 
 /// Tests on one slot. With `none_of` false the atom holds where the slot is there and some test is true, with
 /// `none_of` true where the slot is there and no test is.
-#[derive(Debug, Drop)]
+#[derive(Debug, PartialEq, Eq, PartialOrd, Ord, Hash, Drop)]
 pub struct Atom {
     pub slot: Slot,
     pub none_of: bool,

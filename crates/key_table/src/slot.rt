@@ -5,14 +5,14 @@ use crate::{NoMemory, Text};
 use std::cmp::Ordering;
 
 /// A key by its number, and under a metadata key a sub name.
-#[derive(Debug, Drop)]
+#[derive(Debug, PartialEq, Eq, PartialOrd, Ord, Hash, Drop)]
 pub struct Slot {
     pub key: u32,
     pub sub: Option<Text>,
 }
 
 /// A value of a slot: the number of a variant of its key, a whole number, or a text.
-#[derive(Debug, Drop)]
+#[derive(Debug, PartialEq, Eq, PartialOrd, Ord, Hash, Drop)]
 pub enum Datum {
     Variant(u32),
     Number(i64),

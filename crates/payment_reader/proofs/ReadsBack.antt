@@ -21,7 +21,8 @@ use Rattle.key_table.specs.Tables.{Domain, variants, bounds, text, metadata, Key
 use Rattle.key_table.specs.Payments.{Entries, AreAscending, value_of, with_value, is_legal}
 use Rattle.json_shape.specs.declared.error.ShapeError.{ShapeError}
 use Rattle.json_shape.specs.Paths.{name_step, fault}
-use Rattle.json_shape.specs.Shapes.{json_of, or_fault}
+use Rattle.key_table.specs.Answers.{or_fault}
+use Rattle.json_shape.specs.Shapes.{json_of}
 use Rattle.payment_reader.specs.Cursors.{HasBits, HasBitsAt, IsWellMade}
 use Rattle.payment_reader.specs.Reading.{members_put, texts_put, value_put, field_put, fields_put, payment_in, payment_of}
 use Rattle.payment_reader.specs.Written.{datum_data, sub_added, subs_of, object_of, is_metadata, data_at, with_field, fields_of, payment_data, HasFewSubs}
@@ -361,8 +362,8 @@ payment_reads table es w =
 pub text_reads_back : (table : Table) (es : Entries) (t : List ℕ) → IsWellMade table es → is_legal table es ≡ true → IsUtf8 t → json.read t ≡ Some (payment_data table es) → HasFewSubs es → payment_of table t ≡ Ok es
 text_reads_back table es t made legal utf8 is few =
     let w : IsWritable table es = record { made = made.made; ascending = made.ascending; bits = made.bits; legal = legal; few = few } in
-    let one : json_of t ≡ or_fault 1 [] (json.read t) = cond-true (is_utf8 t) (or_fault 1 [] (json.read t)) (Err (fault 1 [])) (is_utf8-from_IsUtf8 t utf8) in
-    let two : json_of t ≡ Ok (payment_data table es) = one ∙ ap (or_fault 1 []) is in
+    let one : json_of t ≡ or_fault (fault 1 []) (json.read t) = cond-true (is_utf8 t) (or_fault (fault 1 []) (json.read t)) (Err (fault 1 [])) (is_utf8-from_IsUtf8 t utf8) in
+    let two : json_of t ≡ Ok (payment_data table es) = one ∙ ap (or_fault (fault 1 [])) is in
     rw (two, payment_reads table es w)
 
 -- ---- what is written nests twice at most

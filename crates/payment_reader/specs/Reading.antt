@@ -6,19 +6,14 @@ use Rattle.key_table.specs.declared.key.Kind.{Kind}
 use Rattle.key_table.specs.declared.key.Kind.TheVariants as kind
 use Rattle.key_table.specs.declared.slot.Datum.{Datum}
 use Rattle.key_table.specs.declared.slot.Datum.TheVariants.{Variant, Number, Text}
-use Rattle.key_table.specs.Answers.{◌>>=◌}
+use Rattle.key_table.specs.Answers.{◌>>=◌, or_fault, provided}
 use Rattle.key_table.specs.Slots.{at}
 use Rattle.key_table.specs.Payments.{Entries, with_value}
 use Rattle.key_table.specs.Tables.{Table, find_key, kind_at, find_variant, bounds_at}
 use Rattle.json_shape.specs.declared.error.ShapeError.{ShapeError}
 use Rattle.json_shape.specs.Paths.{name_step, fault}
-use Rattle.json_shape.specs.Shapes.{or_fault, json_of, whole_of}
+use Rattle.json_shape.specs.Shapes.{json_of, whole_of}
 use Rattle.payment_reader.specs.declared.error.PaymentError.{PaymentError}
-
--- nothing, or else the fault with a code at a path
-abbrev pub provided : ℕ → List ℕ → Bool → Result ⊤ ShapeError
-provided code path true = Ok tt
-provided code path false = Err (fault code path)
 
 -- the payment with what each member in turn puts
 unfoldable pub members_put : (List ℕ → Data → Entries → Result Entries ShapeError) → Members → Entries → Result Entries ShapeError
@@ -27,11 +22,11 @@ members_put put (member name d ms) payment = put name d payment >>= members_put 
 
 -- the string at a path, of at most 1,024 bytes
 abbrev pub text_in : List ℕ → Data → Result (List ℕ) ShapeError
-text_in path d = or_fault 3 path (as_str d) >>= λ s. provided 9 path (nat_le (length s) 1024) >>= λ _. Ok s
+text_in path d = or_fault (fault 3 path) (as_str d) >>= λ s. provided (fault 9 path) (nat_le (length s) 1024) >>= λ _. Ok s
 
 -- the variant of a key that the string at a path names
 abbrev pub variant_in : Table → ℕ → List ℕ → Data → Result Datum ShapeError
-variant_in table key path d = or_fault 3 path (as_str d) >>= λ word. or_fault 7 path (find_variant key word table) >>= λ n. Ok (Variant n)
+variant_in table key path d = or_fault (fault 3 path) (as_str d) >>= λ word. or_fault (fault 7 path) (find_variant key word table) >>= λ n. Ok (Variant n)
 
 -- whether a number lies within bounds, where there are any
 abbrev pub is_between : Option (ℤ × ℤ) → ℤ → Bool
@@ -40,11 +35,11 @@ is_between (Some ends) z = int_le ends.0 z && int_le z ends.1
 
 -- the whole number at a path, within the bounds of a key
 abbrev pub number_in : Table → ℕ → List ℕ → Data → Result Datum ShapeError
-number_in table key path d = whole_of path d >>= λ z. provided 8 path (is_between (bounds_at key table) z) >>= λ _. Ok (Number z)
+number_in table key path d = whole_of path d >>= λ z. provided (fault 8 path) (is_between (bounds_at key table) z) >>= λ _. Ok (Number z)
 
 -- The payment with what a sub name of a metadata key says. A null puts nothing.
 abbrev pub sub_put : ℕ → List ℕ → List ℕ → Data → Entries → Result Entries ShapeError
-sub_put key path name d payment = provided 9 (name_step path name) (nat_le (length name) 255) >>= λ _. if is_some (as_null d) then Ok payment else (text_in (name_step path name) d >>= λ t. Ok (with_value payment (at key (Some name)) (Text t)))
+sub_put key path name d payment = provided (fault 9 (name_step path name)) (nat_le (length name) 255) >>= λ _. if is_some (as_null d) then Ok payment else (text_in (name_step path name) d >>= λ t. Ok (with_value payment (at key (Some name)) (Text t)))
 
 -- the payment with what each sub name in turn says
 abbrev pub subs_put : ℕ → List ℕ → Members → Entries → Result Entries ShapeError
@@ -57,7 +52,7 @@ members_count (member name d ms) = suc (members_count ms)
 
 -- the payment with the texts of a metadata key, of which there are at most 4,096
 abbrev pub texts_put : ℕ → List ℕ → Data → Entries → Result Entries ShapeError
-texts_put key path d payment = or_fault 3 path (as_object d) >>= λ ms. provided 5 path (nat_le (members_count ms) 4096) >>= λ _. subs_put key path ms payment
+texts_put key path d payment = or_fault (fault 3 path) (as_object d) >>= λ ms. provided (fault 5 path) (nat_le (members_count ms) 4096) >>= λ _. subs_put key path ms payment
 
 -- the payment with what the value of a key says, by the key's kind
 abbrev pub value_put : Table → ℕ → Kind → List ℕ → Data → Entries → Result Entries ShapeError
@@ -72,7 +67,7 @@ kind_named name table = option_and_then (λ key. option_map (λ k. (key, k)) (ki
 
 -- The payment with what a field says. A null puts nothing, and its key is known all the same.
 abbrev pub field_put : Table → List ℕ → Data → Entries → Result Entries ShapeError
-field_put table name d payment = or_fault 6 (name_step [] name) (kind_named name table) >>= λ found. if is_some (as_null d) then Ok payment else value_put table found.0 found.1 (name_step [] name) d payment
+field_put table name d payment = or_fault (fault 6 (name_step [] name)) (kind_named name table) >>= λ found. if is_some (as_null d) then Ok payment else value_put table found.0 found.1 (name_step [] name) d payment
 
 -- the payment with what each field in turn says
 abbrev pub fields_put : Table → Members → Entries → Result Entries ShapeError
@@ -80,7 +75,7 @@ fields_put table = members_put (field_put table)
 
 -- the payment that an object says
 abbrev pub payment_in : Table → Data → Result Entries ShapeError
-payment_in table d = or_fault 3 [] (as_object d) >>= λ ms. fields_put table ms []
+payment_in table d = or_fault (fault 3 []) (as_object d) >>= λ ms. fields_put table ms []
 
 -- the payment that a file is, or its first fault
 abbrev pub payment_or_fault : Table → List ℕ → Result Entries ShapeError
