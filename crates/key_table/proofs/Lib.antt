@@ -1,5 +1,8 @@
+pub mod ContextLemmas
 pub mod Cuts
+pub mod EqualLemmas
 pub mod Found
+pub mod LegalLemmas
 pub mod NameLemmas
 pub mod OptionLemmas
 pub mod Places

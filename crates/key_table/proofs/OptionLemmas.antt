@@ -1,12 +1,11 @@
 -- What stands at a slot of a legal payment.
-use Rattle.std.proofs.Common.{◌≡◌, ℕ, List, [], ◌∷◌, Bool, true, false, ◌&&◌, cond, Option, Some, None, refl, ap, sym, ◌∙◌, subst, Ordering, Less, Equal, Greater, nat_cmp, is_eq}
+use Rattle.std.proofs.Common.{◌≡◌, ℕ, List, [], ◌∷◌, true, false, cond, Option, Some, None, refl, ap, ◌∙◌, Ordering, Less, Equal, Greater, nat_cmp, is_eq}
 use Rattle.std.specs.Ordering.{ordering_then}
 use Rattle.std.specs.Option.{option_cmp}
 use Rattle.std.specs.Cmp.Lexicographic.{slice_cmp}
 use Rattle.std.proofs.lemmas.Bool.{and_parts, false≢true}
 use Rattle.std.proofs.lemmas.Map.Lookups.{exact_unsigned, exact_bytes}
 use Rattle.key_table.specs.declared.slot.Slot.{Slot}
-use Rattle.key_table.specs.declared.slot.Datum.{Datum}
 use Rattle.key_table.specs.Slots.{slot_cmp, at}
 use Rattle.key_table.specs.Tables.{Table, datum_fits}
 use Rattle.key_table.specs.Payments.{Entries, value_of, is_legal}

@@ -1,9 +1,11 @@
 pub mod Answers
 pub mod Atoms
 pub mod BuiltIn
+pub mod Contexts
 pub mod KeyViews
 pub mod NameLists
 pub mod Names
+pub mod OptionSets
 pub mod Options
 pub mod Payments
 pub mod Places

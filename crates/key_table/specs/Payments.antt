@@ -1,5 +1,5 @@
 -- Payments: finite maps from slots to values, as their entries in ascending order of slots.
-use Rattle.std.specs.Prelude.{◌≡◌, List, Bool, Option, Some, if◌then◌else◌}
+use Rattle.std.specs.Prelude.{◌≡◌, List, Bool, true, Option, Some, if◌then◌else◌}
 use Rattle.std.specs.List.{list_all}
 use Rattle.std.specs.List.Sorted.{IsStrictlySortedBy}
 use Rattle.std.specs.Map.{keys_of, lookup}
@@ -31,3 +31,11 @@ is_legal table entries = list_all (λ (e : Slot × Datum). datum_fits table e.0 
 -- After a put the slot has the datum, and every other slot has what it had.
 abbrev pub PutLaw : Type 0
 PutLaw = (es : Entries) (s t : Slot) (d : Datum) → value_of t (with_value es s d) ≡ (if is_eq (slot_cmp t s) then Some d else value_of t es)
+
+-- A legal payment stays legal where a value that fits is put.
+abbrev pub PutLegalLaw : Type 0
+PutLegalLaw = (table : Table) (es : Entries) (s : Slot) (d : Datum) → datum_fits table s d ≡ true → is_legal table es ≡ true → is_legal table (with_value es s d) ≡ true
+
+-- A payment is legal where its slots ascend, and what is found at each slot fits there.
+abbrev pub FoundLegalLaw : Type 0
+FoundLegalLaw = (table : Table) (es : Entries) → AreAscending es → ((s : Slot) (d : Datum) → value_of s es ≡ Some d → datum_fits table s d ≡ true) → is_legal table es ≡ true

@@ -1,12 +1,12 @@
 -- Key table files: the table that a TOML document says, or its first fault.
-use Rattle.std.specs.Prelude.{ℕ, ℤ, pos, negsuc, int_le, nat_lt, nat_le, List, [], ◌∷◌, ◌++◌, length, codes, bytes_eq, Bool, true, false, not, is_some, if◌then◌else◌, Option, Some, None, option_map, option_and_then, Result, Ok, Err, ⊤}
+use Rattle.std.specs.Prelude.{ℕ, ℤ, pos, negsuc, int_le, nat_lt, nat_le, List, [], ◌∷◌, ◌++◌, length, codes, bytes_eq, not, is_some, if◌then◌else◌, Option, Some, None, option_map, option_and_then, Result, Ok, Err}
 use Rattle.std.specs.Str.{is_utf8}
 use Rattle.toml.specs.Data.{Data, table, Items, no_items, item, get, as_str, as_integer, as_array, as_table}
 use Rattle.toml.specs.Parse.{parse_document}
 use Rattle.key_table.specs.declared.table.TableError.{TableError}
 use Rattle.key_table.specs.Answers.{◌>>=◌, or_fault, provided}
 use Rattle.key_table.specs.Names.{is_word, is_among}
-use Rattle.key_table.specs.Tables.{Domain, variants, bounds, text, metadata, Key, Table, names_in}
+use Rattle.key_table.specs.Tables.{Domain, variants, bounds, text, metadata, Table, names_in}
 
 -- The bytes are no TOML.
 abbrev pub not_toml : TableError

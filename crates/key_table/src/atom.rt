@@ -3,8 +3,7 @@ ghost use Rattle.std.specs.List.{list_any};
 ghost use Rattle.key_table.specs.Atoms.{relates, test_holds, passes};
 ghost use Rattle.key_table.specs.Options.{holds_on, OptionLaw};
 
-use crate::{Datum, NoMemory, Payment, Seq, Slot, Text};
-use std::alloc::Global;
+use crate::{Copied, Datum, NoMemory, Payment, Seq, Slot, Text};
 
 /// How a number compares with another.
 #[derive(Clone, Copy, Debug, PartialEq, Eq, PartialOrd, Ord, Hash)]
@@ -102,19 +101,26 @@ impl Atom {
     }
 
     /// An equal atom.
-    pub fn copy(&self, alloc: Global) -> Result<Atom, NoMemory>
+    pub fn copy(&self) -> Result<Atom, NoMemory>
         ensures { IfOk result (λ a. a ≡ self.now) }
     {
-        let slot = self.slot.copy()?;
-        let mut tests = Seq::new(alloc);
-        for test in self.tests.as_slice() {
-            tests.push(test.copy()?)?;
-        }
         Ok(Atom {
-            slot,
+            slot: self.slot.copy()?,
             none_of: self.none_of,
-            tests,
+            tests: self.tests.copy()?,
         })
+    }
+}
+
+impl Copied for Test {
+    fn copied(&self) -> Result<Test, NoMemory> {
+        self.copy()
+    }
+}
+
+impl Copied for Atom {
+    fn copied(&self) -> Result<Atom, NoMemory> {
+        self.copy()
     }
 }
 

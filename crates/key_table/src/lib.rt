@@ -4,6 +4,7 @@
 mod atom;
 mod built_in;
 mod key;
+mod laws;
 mod names;
 mod payment;
 mod seq;
@@ -15,8 +16,9 @@ mod text;
 
 pub use atom::{Atom, Op, Test, Verdict3, atom_holds, option_law};
 pub use key::Kind;
+pub use laws::{atom_law, forces_law, left_law, legal_law, slot_law};
 pub use payment::{Payment, put_law};
-pub use seq::Seq;
+pub use seq::{Copied, Seq};
 pub use slot::{Datum, Slot};
 pub use stop::{NoMemory, NotUtf8, Stop};
 pub use table::{KeyTable, TableError};

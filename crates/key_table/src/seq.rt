@@ -1,4 +1,4 @@
-ghost use Rattle.std.specs.Prelude.{◌≡◌, [], ◌∷◌, ◌++◌, OnOk, OnErr};
+ghost use Rattle.std.specs.Prelude.{◌≡◌, [], ◌∷◌, ◌++◌, IfOk, OnOk, OnErr};
 
 use crate::NoMemory;
 use std::alloc::Global;
@@ -49,6 +49,40 @@ impl<T: Drop> Seq<T> {
     {
         self.items.push(item)?;
         Ok(())
+    }
+}
+
+/// What a list can be copied of. A type that holds collections has the inherent call `copy`, and answers here what that does.
+pub trait Copied: Sized {
+    /// An equal value.
+    fn copied(&self) -> Result<Self, NoMemory>
+        ensures { IfOk result (λ x. x ≡ self.now) };
+}
+
+impl<T: Copied + Drop> Seq<T> {
+    /// An equal list.
+    pub fn copy(&self) -> Result<Seq<T>, NoMemory>
+        ensures { IfOk result (λ s. s ≡ self.now) }
+    {
+        let mut copies = Seq {
+            items: Vec::with_capacity(*self.items.allocator(), self.items.len())?,
+        };
+        for item in self.as_slice() {
+            copies.push(item.copied()?)?;
+        }
+        Ok(copies)
+    }
+}
+
+impl<T: Copied + Drop> Copied for Seq<T> {
+    fn copied(&self) -> Result<Seq<T>, NoMemory> {
+        self.copy()
+    }
+}
+
+impl Copied for i64 {
+    fn copied(&self) -> Result<i64, NoMemory> {
+        Ok(*self)
     }
 }
 

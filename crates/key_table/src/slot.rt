@@ -4,7 +4,8 @@ ghost use Rattle.key_table.specs.Slots.{slot_cmp, at};
 use crate::{NoMemory, Text};
 use std::cmp::Ordering;
 
-/// A key by its number, and under a metadata key a sub name.
+/// A key by its number, and under a metadata key a sub name. Slots are ordered by key, no sub name first, then by the bytes of
+/// the sub name.
 #[derive(Debug, PartialEq, Eq, PartialOrd, Ord, Hash, Drop)]
 pub struct Slot {
     pub key: u32,
@@ -28,7 +29,7 @@ pub(crate) fn order(key: u32, sub: Option<&Text>, slot: &Slot) -> Ordering
             (None, None) => Ordering::Equal,
             (None, Some(_)) => Ordering::Less,
             (Some(_), None) => Ordering::Greater,
-            (Some(mine), Some(other)) => mine.order(other),
+            (Some(mine), Some(other)) => mine.cmp(other),
         },
         other => other,
     }

@@ -1,17 +1,15 @@
 ghost use Rattle.std.specs.Prelude.{◌≡◌, IsUtf8, IfOk, bytes_eq};
-ghost use Rattle.std.specs.Ordering.{nat_cmp};
-ghost use Rattle.std.specs.Cmp.Lexicographic.{slice_cmp};
 ghost use Rattle.key_table.specs.Answers.{Answers};
 ghost use Rattle.key_table.specs.Texts.{text_of};
 
-use crate::{NoMemory, NotUtf8, Stop};
+use crate::{Copied, NoMemory, NotUtf8, Stop};
 use std::alloc::Global;
 use std::cmp::Ordering;
 use std::hash::{Hash, Hasher};
 use std::marker::Model;
 use std::str;
 
-/// A text, which contracts see as its bytes. They are UTF-8.
+/// A text, which contracts see as its bytes. They are UTF-8. Texts are ordered by their bytes.
 #[derive(Debug, Drop)]
 pub struct Text {
     text: String,
@@ -69,13 +67,6 @@ impl Text {
         self.text.as_bytes() == bytes
     }
 
-    /// The order by bytes.
-    pub fn order(&self, other: &Text) -> Ordering
-        ensures { result ≡ slice_cmp nat_cmp self.now other.now }
-    {
-        self.as_bytes().cmp(other.as_bytes())
-    }
-
     /// An equal text.
     pub fn copy(&self) -> Result<Text, NoMemory>
         ensures { IfOk result (λ t. t ≡ self.now) }
@@ -83,6 +74,12 @@ impl Text {
         Ok(Text {
             text: self.text.clone()?,
         })
+    }
+}
+
+impl Copied for Text {
+    fn copied(&self) -> Result<Text, NoMemory> {
+        self.copy()
     }
 }
 

@@ -66,7 +66,7 @@ fn holds(
     number: i64,
 ) -> Result<bool, Fail> {
     let atom = atom(rt, key, none_of, Test::Number(op, number))?;
-    Ok(atom_holds(&atom.copy(rt.alloc())?, &payment(rt)?))
+    Ok(atom_holds(&atom.copy()?, &payment(rt)?))
 }
 
 #[test]
