@@ -10,3 +10,4 @@ pub mod Runs
 pub mod Sorted
 pub mod TableFileLemmas
 pub mod TextLemmas
+pub mod UnderKeys

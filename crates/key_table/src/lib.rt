@@ -3,6 +3,7 @@
 
 mod atom;
 mod built_in;
+mod entries;
 mod key;
 mod laws;
 mod names;
@@ -15,6 +16,7 @@ mod table_file;
 mod text;
 
 pub use atom::{Atom, Op, Test, Verdict3, atom_holds, option_law};
+pub use entries::{Entries, Under};
 pub use key::Kind;
 pub use laws::{atom_law, forces_law, left_law, legal_law, slot_law};
 pub use payment::{Payment, put_law};
