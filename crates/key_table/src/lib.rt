@@ -12,6 +12,7 @@ mod stop;
 mod table;
 mod table_file;
 mod text;
+mod word;
 
 pub use atom::{Atom, Op, Test, Verdict3, atom_holds, option_law};
 pub use key::Kind;
@@ -21,6 +22,7 @@ pub use slot::{Datum, Slot};
 pub use stop::{NoMemory, NotUtf8, Stop};
 pub use table::{KeyTable, TableError};
 pub use text::Text;
+pub use word::is_word;
 
 #[cfg(test)]
 mod tests;
