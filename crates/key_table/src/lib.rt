@@ -14,6 +14,7 @@ mod stop;
 mod table;
 mod table_file;
 mod text;
+mod word;
 
 pub use atom::{Atom, Op, Test, Verdict3, atom_holds, option_law};
 pub use entries::{Entries, Under};
@@ -25,6 +26,7 @@ pub use slot::{Datum, Slot};
 pub use stop::{NoMemory, NotUtf8, Stop};
 pub use table::{KeyTable, TableError};
 pub use text::Text;
+pub use word::is_word;
 
 #[cfg(test)]
 mod tests;
