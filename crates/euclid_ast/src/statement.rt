@@ -8,7 +8,7 @@ pub struct NumberTest {
 }
 
 /// What a key is compared with: one value, or an array of them.
-#[derive(Debug, Drop)]
+#[derive(Debug, PartialEq, Eq, Drop)]
 pub enum ValueForm {
     Number(i64),
     Variant(Text),
@@ -20,7 +20,7 @@ pub enum ValueForm {
 }
 
 /// A key's name, an operator and a value.
-#[derive(Debug, Drop)]
+#[derive(Debug, PartialEq, Eq, Drop)]
 pub struct Comparison {
     pub lhs: Text,
     pub op: Op,

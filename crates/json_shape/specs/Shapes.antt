@@ -31,8 +31,8 @@ abbrev pub within : {A : Type 0} → List ℕ → ℕ → List A → Result (Lis
 within path most xs = if nat_le (length xs) most then Ok xs else Err (fault 5 path)
 
 -- the string at a path, of at most so many bytes
-abbrev pub text_of : List ℕ → ℕ → Data → Result (List ℕ) ShapeError
-text_of path most d = or_fault (fault 3 path) (as_str d) >>= within path most
+abbrev pub short_text_of : List ℕ → ℕ → Data → Result (List ℕ) ShapeError
+short_text_of path most d = or_fault (fault 3 path) (as_str d) >>= within path most
 
 -- the signed 64-bit whole number at a path
 abbrev pub whole_of : List ℕ → Data → Result ℤ ShapeError

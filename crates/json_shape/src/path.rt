@@ -61,7 +61,7 @@ impl Path {
     pub fn pointer(&self) -> Result<Text, NoMemory>
         ensures { IfOk result (λ t. t ≡ self.now) }
     {
-        Text::from_str(*self.text.allocator(), self.text.as_str())
+        Ok(Text::from(self.text.clone()?))
     }
 
     /// The fault with this code here.

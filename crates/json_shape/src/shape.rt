@@ -1,7 +1,7 @@
 ghost use Rattle.std.specs.Prelude.{◌≡◌, ◌≤◌, map, option_map, length, IfOk};
 ghost use Rattle.serde_json.specs.View.{view};
 ghost use Rattle.key_table.specs.Answers.{Answers};
-ghost use Rattle.json_shape.specs.Shapes.{field_of, optional_of, text_of, whole_of, list_of};
+ghost use Rattle.json_shape.specs.Shapes.{field_of, optional_of, short_text_of, whole_of, list_of};
 
 use crate::error::{LIMIT, MISSING, NOT_WHOLE, WRONG_SHAPE};
 use crate::{Path, ShapeError};
@@ -56,7 +56,7 @@ pub fn text_up_to(
     path: &Path,
     most: usize,
 ) -> Result<Text, Stop<ShapeError>>
-    ensures { Answers (λ t. t) result (text_of path.now most (view node.now)) }
+    ensures { Answers (λ t. t) result (short_text_of path.now most (view node.now)) }
 {
     let Some(text) = node.as_str() else {
         return Err(path.stop(WRONG_SHAPE));
