@@ -1,7 +1,7 @@
 ghost use Rattle.std.specs.Prelude.{◌≡◌, ◌<◌, ◌^◌, length, position, IfSome};
 ghost use Rattle.std.specs.List.{list_any, list_all};
 ghost use Rattle.key_table.specs.Tables.{variants_at};
-ghost use Rattle.euclid_ast.specs.Comparisons.{fits, is_word, is_number, is_text, meets, compares, comparison_holds};
+ghost use Rattle.euclid_ast.specs.Comparisons.{fits, is_equality, is_word, is_number, is_text, meets, compares, comparison_holds};
 ghost use Rattle.euclid_ast.specs.Meaning.{statement_holds, rule_matches, choice, IsWithin};
 
 use crate::{Comparison, NumberTest, Program, Rule, Statement, ValueForm};
@@ -93,15 +93,20 @@ fn comparison_holds(table: &KeyTable, payment: &Payment, comparison: &Comparison
 fn fits(kind: Kind, op: Op, value: &ValueForm) -> bool
     ensures { result ≡ fits kind op value.now }
 {
-    let is_equality = matches!(op, Op::Equal | Op::NotEqual);
     match (kind, value) {
         (Kind::Number, ValueForm::Number(_)) => true,
         (Kind::Enum, ValueForm::Variant(_) | ValueForm::Variants(_))
         | (Kind::Number, ValueForm::Numbers(_) | ValueForm::NumberTests(_))
         | (Kind::Text, ValueForm::Str(_))
-        | (Kind::Metadata, ValueForm::Metadata { .. }) => is_equality,
+        | (Kind::Metadata, ValueForm::Metadata { .. }) => is_equality(op),
         _ => false,
     }
+}
+
+fn is_equality(op: Op) -> bool
+    ensures { result ≡ is_equality op }
+{
+    matches!(op, Op::Equal | Op::NotEqual)
 }
 
 fn compares(table: &KeyTable, key: u32, datum: &Datum, op: Op, value: &ValueForm) -> bool
