@@ -1,3 +1,4 @@
+pub mod AnswerLemmas
 pub mod ContextLemmas
 pub mod Cuts
 pub mod EqualLemmas

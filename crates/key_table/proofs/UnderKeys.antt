@@ -1,5 +1,5 @@
--- The entries under a key: where they begin among entries in order, and how they go on.
-use Rattle.std.proofs.Common.{◌≡◌, ℕ, zero, suc, ◌+◌, ◌<◌, ◌≤◌, List, [], ◌∷◌, ◌++◌, length, get_or, take, drop, Bool, true, false, Option, Some, None, refl, ap, sym, ◌∙◌, subst, arith, Ordering, Less, Equal, Greater, nat_cmp, eqb, slice_get}
+-- The entries under a key: where they begin among entries in order, how they go on, and what holds of them.
+use Rattle.std.proofs.Common.{◌≡◌, ℕ, zero, suc, ◌+◌, ◌<◌, ◌≤◌, List, [], ◌∷◌, ◌++◌, length, get_or, take, drop, Bool, true, false, Option, Some, None, refl, ap, sym, ◌∙◌, subst, arith, Ordering, Less, Equal, Greater, nat_cmp, is_eq, cond, eqb, slice_get}
 use Rattle.std.specs.Cmp.{nat_cmp_is}
 use Rattle.std.specs.List.{AllByRecursion}
 use Rattle.std.specs.List.Sorted.{IsStrictlySortedBy}
@@ -7,7 +7,7 @@ use Rattle.std.specs.Map.{keys_of}
 use Rattle.std.specs.Option.{IfSome, option_cmp}
 use Rattle.std.specs.Ordering.{ordering_then, MatchOrdering}
 use Rattle.std.specs.Cmp.Lexicographic.{slice_cmp}
-use Rattle.std.proofs.lemmas.Bool.{cond-true, cond-false, eq-eqb, ne_eqb, eqb-true, eqb-false}
+use Rattle.std.proofs.lemmas.Bool.{cond-true, cond-false, cond_both, false_from_ne_true, and_parts, and_from, eq-eqb, ne_eqb, eqb-true, eqb-false}
 use Rattle.std.proofs.lemmas.Cmp.{ranked}
 use Rattle.std.proofs.lemmas.List.{append_assoc, take-append-drop}
 use Rattle.std.proofs.lemmas.List.Elements.{filter-append}
@@ -15,10 +15,13 @@ use Rattle.std.proofs.lemmas.List.Sums.{take_while-cons}
 use Rattle.key_table.specs.declared.slot.Slot.{Slot}
 use Rattle.key_table.specs.declared.slot.Datum.{Datum}
 use Rattle.key_table.specs.Slots.{slot_cmp, at}
-use Rattle.key_table.specs.Payments.{Entries, AreAscending, under}
+use Rattle.key_table.specs.Tables.{Table, datum_fits}
+use Rattle.key_table.specs.Payments.{Entries, AreAscending, value_of, under, is_legal}
 use Rattle.key_table.specs.Places.{AreBefore, AreAfter, Run, entries_of, front_under, AreRuns}
 use Rattle.key_table.proofs.Cuts.{cut}
+use Rattle.key_table.proofs.OptionLemmas.{same_slot}
 use Rattle.key_table.proofs.Runs.{sorted_right}
+use Rattle.key_table.proofs.Sorted.{equal}
 
 abbrev Entry : Type 0
 Entry = Slot × Datum
@@ -132,3 +135,49 @@ under_runs runs i run n key are within is before after here from =
     ap (under key) parts
     ∙ under_from key (front ++ take n run.items) (drop n run.items ++ back) (subst P parts are.ascending) (before_append (at key None) front (take n run.items) before here)
     (starts_append key (drop n run.items) back (starts_at key run.items n from) (starts_after key back after))
+
+-- ---- what holds of the entries holds of those under a key
+
+pub all_under : (P : Entry → Type 0) (key : ℕ) (es : Entries) → AllByRecursion P es → AllByRecursion P (under key es)
+all_under P key [] h = tt
+all_under P key (e ∷ es) h =
+    let Q : Entries → Type 0 = λ l. AllByRecursion P l in
+    cond_both (eqb e.0.key key) (e ∷ under key es) (under key es) Q (λ is. (h.0, all_under P key es h.1)) (λ other. all_under P key es h.1)
+
+slots_under : (P : Slot → Type 0) (key : ℕ) (es : Entries) → AllByRecursion P (keys_of es) → AllByRecursion P (keys_of (under key es))
+slots_under P key [] h = tt
+slots_under P key (e ∷ es) h =
+    let Q : Entries → Type 0 = λ l. AllByRecursion P (keys_of l) in
+    cond_both (eqb e.0.key key) (e ∷ under key es) (under key es) Q (λ is. (h.0, slots_under P key es h.1)) (λ other. slots_under P key es h.1)
+
+pub under_ascends : (key : ℕ) (es : Entries) → AreAscending es → AreAscending (under key es)
+unfolding IsStrictlySortedBy
+under_ascends key [] up = tt
+under_ascends key (e ∷ es) up =
+    let Q : Entries → Type 0 = λ l. AreAscending l in
+    cond_both (eqb e.0.key key) (e ∷ under key es) (under key es) Q (λ is. (slots_under _ key es up.0, under_ascends key es up.1)) (λ other. under_ascends key es up.1)
+
+pub under_legal : (table : Table) (key : ℕ) (es : Entries) → is_legal table es ≡ true → is_legal table (under key es) ≡ true
+under_legal table key [] legal = refl
+under_legal table key (e ∷ es) legal =
+    let parts = and_parts (datum_fits table e.0 e.1) (is_legal table es) legal in
+    let Q : Entries → Type 0 = λ l. is_legal table l ≡ true in
+    cond_both (eqb e.0.key key) (e ∷ under key es) (under key es) Q (λ is. and_from (datum_fits table e.0 e.1) (is_legal table (under key es)) parts.0 (under_legal table key es parts.1)) (λ other. under_legal table key es parts.1)
+
+-- each has the key
+pub under_keys : (key : ℕ) (es : Entries) → AllByRecursion (λ (e : Entry). e.0.key ≡ key) (under key es)
+under_keys key [] = tt
+under_keys key (e ∷ es) =
+    let Q : Entries → Type 0 = λ l. AllByRecursion (λ (x : Entry). x.0.key ≡ key) l in
+    cond_both (eqb e.0.key key) (e ∷ under key es) (under key es) Q (λ is. (eqb-true e.0.key key is, under_keys key es)) (λ other. under_keys key es)
+
+-- and at a slot of the key stands what stood there
+pub value_under : (slot : Slot) (es : Entries) → value_of slot (under slot.key es) ≡ value_of slot es
+value_under slot [] = refl
+value_under slot (e ∷ es) =
+    let Q : Entries → Type 0 = λ l. value_of slot l ≡ value_of slot (e ∷ es) in
+    cond_both (eqb e.0.key slot.key) (e ∷ under slot.key es) (under slot.key es) Q
+    (λ is. ap (λ (o : Option Datum). cond (is_eq (slot_cmp slot e.0)) (Some e.1) o) (value_under slot es))
+    (λ other.
+    let apart = false_from_ne_true (is_eq (slot_cmp slot e.0)) (λ h. eqb-false e.0.key slot.key other (ap (λ (s : Slot). s.key) (sym (same_slot slot e.0 (equal (slot_cmp slot e.0) h))))) in
+    value_under slot es ∙ sym (cond-false (is_eq (slot_cmp slot e.0)) (Some e.1) (value_of slot es) apart))

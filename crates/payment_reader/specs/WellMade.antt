@@ -1,18 +1,12 @@
--- What is known of the entries of a payment while it is written: how far the keys have gone through them, and that its numbers have 64 bits.
+-- A table and a payment are as every one is that a call gives, and the numbers of the payment have 64 bits.
 use Rattle.std.specs.Prelude.{◌≡◌, ℕ, ◌<◌, length, true, false, Option, Some, None}
-use Rattle.std.specs.List.{AllByRecursion}
 use Rattle.serde_json.specs.Find.{as_i64, of_integer}
-use Rattle.key_table.specs.declared.slot.Slot.{Slot}
 use Rattle.key_table.specs.declared.slot.Datum.{Datum}
 use Rattle.key_table.specs.declared.slot.Datum.TheVariants.{Number}
 use Rattle.key_table.specs.Slots.{at}
 use Rattle.key_table.specs.Tables.{Table, kind_at, is_table}
 use Rattle.key_table.specs.Payments.{Entries, AreAscending, value_of}
 use Rattle.payment_reader.specs.Written.{is_metadata}
-
--- Each entry stands under an earlier key.
-abbrev pub AreUnderEarlier : ℕ → Entries → Type 0
-AreUnderEarlier key entries = AllByRecursion (λ (e : Slot × Datum). e.0.key < key) entries
 
 -- A number is one of 64 bits.
 abbrev pub HasBits : Option Datum → Type 0
@@ -23,7 +17,6 @@ HasBits _ = Unit {0}
 abbrev pub HasBitsAt : ℕ → Table → Entries → Type 0
 HasBitsAt key table entries = is_metadata (kind_at key table) ≡ false → HasBits (value_of (at key None) entries)
 
--- The table and the payment are as every one is that a call gives.
 pub record IsWellMade (table : Table) (entries : Entries) : Type 0 where
   pub made : is_table table ≡ true
   pub ascending : AreAscending entries
