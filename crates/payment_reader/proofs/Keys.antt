@@ -41,7 +41,7 @@ found f xs n x is distinct = rw (place f xs n x is distinct, lt-ltb n (length xs
 -- ---- a key that is there
 
 -- where an image is there, so is a value
-option_map_some : {A B P : Type 0} (f : A → B) (o : Option A) (y : B) → option_map f o ≡ Some y → ((x : A) → o ≡ Some x → f x ≡ y → P) → P
+pub option_map_some : {A B P : Type 0} (f : A → B) (o : Option A) (y : B) → option_map f o ≡ Some y → ((x : A) → o ≡ Some x → f x ≡ y → P) → P
 option_map_some f None y is go = let no : ⊥ = cc in absurd no
 option_map_some f (Some x) y is go = let same : f x ≡ y = cc in go x refl same
 

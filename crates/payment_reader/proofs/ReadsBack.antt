@@ -4,7 +4,7 @@ use Rattle.std.specs.Str.{is_utf8}
 use Rattle.std.specs.Ordering.{match_ordering}
 use Rattle.std.specs.List.Sorted.{IsStrictlySortedBy}
 use Rattle.std.specs.Cmp.Lexicographic.{slice_cmp}
-use Rattle.std.proofs.lemmas.Bool.{cases_eq, eq-eqb, false≢true, cond-true}
+use Rattle.std.proofs.lemmas.Bool.{cases_Bool, cases_eq, false≢true, cond-true}
 use Rattle.std.proofs.lemmas.Map.Lookups.{exact_bytes}
 use Rattle.std.proofs.lemmas.Option.{slice_get-get_or, slice_get_within}
 use Rattle.std.proofs.lemmas.Str.{is_utf8-from_IsUtf8}
@@ -30,7 +30,7 @@ use Rattle.payment_reader.specs.WellMade.{HasBits, HasBitsAt, IsWellMade}
 use Rattle.payment_reader.specs.Written.{datum_data, text_added, texts_of, object_of, is_metadata, data_at, with_field, fields_of, payment_data, HasFewSubs}
 use Rattle.payment_reader.proofs.Entries.{equal_entries}
 use Rattle.payment_reader.proofs.Follows.{Follows, Reads, value_put-here, follows_put, follows_on, stays, head_or_rest, fits_parts, fits_domain, legal_value, texts_read, texts_put-few, no_sub, right}
-use Rattle.payment_reader.proofs.Keys.{domain_within, name_domain, kind_is, found_by_name}
+use Rattle.payment_reader.proofs.Keys.{option_map_some, domain_within, name_domain, kind_is, found_by_name}
 
 -- A payment, and its table, of which what is written reads back.
 pub record IsWritable (table : Table) (es : Entries) : Type 0 where
@@ -94,15 +94,7 @@ object_reads : (table : Table) (es : Entries) (key : ℕ) (path : List ℕ) (p :
 object_reads table es key path p w domain = reads_as es es p key _ _ (texts_put-few table es key path p (w.few key)) (texts_read table es key path domain w.ascending w.legal p)
 
 plain_data : (table : Table) (es : Entries) (key : ℕ) (d : Data) → is_metadata (kind_at key table) ≡ false → data_at key table es ≡ Some d → (v : Datum) × (value_of (at key None) es ≡ Some v) × (datum_data (variants_at key table) v ≡ d)
-plain_data table es key d other is =
-    let goal : Type 0 = (v : Datum) × (value_of (at key None) es ≡ Some v) × (datum_data (variants_at key table) v ≡ d) in
-    let plain : option_map (datum_data (variants_at key table)) (value_of (at key None) es) ≡ Some d = rw other at is in
-    let step : (o : Option Datum) → value_of (at key None) es ≡ o → goal =
-    λ o. elim o as (λ o. value_of (at key None) es ≡ o → goal) [
-      | None ↦ (λ none. let e : None ≡ Some d = rw none at plain in let no : ⊥ = cc in absurd no)
-      | Some v ↦ (λ there. let e : Some (datum_data (variants_at key table) v) ≡ Some d = rw there at plain in let same : datum_data (variants_at key table) v ≡ d = cc in (v, there, same))
-    ] in
-    step (value_of (at key None) es) refl
+plain_data table es key d other is = option_map_some (datum_data (variants_at key table)) (value_of (at key None) es) d (rw other at is) (λ v there same. (v, there, same))
 
 metadata_data : (table : Table) (es : Entries) (key : ℕ) (d : Data) → is_metadata (kind_at key table) ≡ true → data_at key table es ≡ Some d → object (texts_of (under key es)) ≡ d
 metadata_data table es key d meta is = let e : object_of (texts_of (under key es)) ≡ Some d = rw meta at is in object_is (texts_of (under key es)) d e
@@ -110,24 +102,19 @@ metadata_data table es key d meta is = let e : object_of (texts_of (under key es
 field_reads : (table : Table) (es : Entries) (name : List ℕ) (key : ℕ) (dom : Domain) (d : Data) (p : Entries) → IsWritable table es → find_key name table ≡ Some key → domain_at key table ≡ Some dom → data_at key table es ≡ Some d
     → Reads es es p key (field_put table name d p)
 field_reads table es name key dom d p w found domain there =
-    let goal : Type 0 = Reads es es p key (field_put table name d p) in
     let kind_there = ap is_metadata (kind_is table key dom domain) in
-    let step : (b : Bool) → is_metadata (Some (kind_of dom)) ≡ b → goal =
-    λ b. elim b as (λ b. is_metadata (Some (kind_of dom)) ≡ b → goal) [
-      | true ↦ (λ meta.
-          let dom_is = is_meta dom meta in
+    let Q : Data → Type 0 = λ x. Reads es es p key (field_put table name x p) in
+    elim (cases_Bool (is_metadata (Some (kind_of dom)))) [
+      | inl meta ↦ (
           let P : Domain → Type 0 = λ x. domain_at key table ≡ Some x in
-          let domain' : domain_at key table ≡ Some metadata = subst P dom_is domain in
-          let Q : Data → Type 0 = λ x. Reads es es p key (field_put table name x p) in
+          let domain' : domain_at key table ≡ Some metadata = subst P (is_meta dom meta) domain in
           subst Q (metadata_data table es key d (kind_there ∙ meta) there)
           (reads_as es es p key _ _ (field_is table name key metadata (object (texts_of (under key es))) p found domain' refl) (object_reads table es key (name_step [] name) p w domain')))
-      | false ↦ (λ other.
+      | inr other ↦ (
           let v = plain_data table es key d (kind_there ∙ other) there in
-          let Q : Data → Type 0 = λ x. Reads es es p key (field_put table name x p) in
           subst Q v.2
           (reads_as es es p key _ _ (field_is table name key dom (datum_data (variants_at key table) v.0) p found domain (datum-null (variants_at key table) v.0)) (plain_reads table es key dom (name_step [] name) v.0 p w domain other v.1)))
-    ] in
-    step (is_metadata (Some (kind_of dom))) refl
+    ]
 
 -- ---- all fields
 
@@ -281,25 +268,19 @@ texts_there (e ∷ es) t v sub ok there =
 
 something : (table : Table) (es : Entries) (t : Slot) (v : Datum) (dom : Domain) → is_legal table es ≡ true → value_of t es ≡ Some v → domain_at t.key table ≡ Some dom → (d : Data) × (data_at t.key table es ≡ Some d)
 something table es t v dom legal there domain =
-    let goal : Type 0 = (d : Data) × (data_at t.key table es ≡ Some d) in
     let kind_there = ap is_metadata (kind_is table t.key dom domain) in
-    let step : (b : Bool) → is_metadata (Some (kind_of dom)) ≡ b → goal =
-    λ b. elim b as (λ b. is_metadata (Some (kind_of dom)) ≡ b → goal) [
-      | true ↦ (λ meta.
+    elim (cases_Bool (is_metadata (Some (kind_of dom)))) [
+      | inl meta ↦ (
           let P : Domain → Type 0 = λ x. domain_at t.key table ≡ Some x in
           let fits = fits_parts table t v metadata (legal_value table es t v legal there) (subst P (is_meta dom meta) domain) in
           let ms = texts_of (under t.key es) in
           let some : object_of ms ≡ Some (object ms) = object_there ms (texts_there (under t.key es) t v fits.0 fits.1 (value_under t es ∙ there)) in
-          let is : data_at t.key table es ≡ Some (object ms) = rw (kind_there ∙ meta) some in
-          (object ms, is))
-      | false ↦ (λ other.
-          let slot = only_slot table es t.key dom legal domain other t v refl there in
+          (object ms, rw (kind_there ∙ meta) some))
+      | inr other ↦ (
           let Q : Slot → Type 0 = λ s. value_of s es ≡ Some v in
-          let here : value_of (at t.key None) es ≡ Some v = subst Q slot there in
-          let is : data_at t.key table es ≡ Some (datum_data (variants_at t.key table) v) = rw (kind_there ∙ other, here) in
-          (datum_data (variants_at t.key table) v, is))
-    ] in
-    step (is_metadata (Some (kind_of dom))) refl
+          let here : value_of (at t.key None) es ≡ Some v = subst Q (only_slot table es t.key dom legal domain other t v refl there) there in
+          (datum_data (variants_at t.key table) v, rw (kind_there ∙ other, here)))
+    ]
 
 none_ascend : AreAscending []
 unfolding IsStrictlySortedBy
