@@ -139,6 +139,3 @@ pub fn atom_holds(atom: &Atom, payment: &Payment) -> bool
 pub fn option_law()
     ensures { OptionLaw }
 {}
-
-#[cfg(test)]
-mod tests;

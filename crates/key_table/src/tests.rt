@@ -1,408 +1,373 @@
-use crate::{Datum, KeyTable, Kind, NoMemory, NotUtf8, Payment, Seq, Slot, Stop, Text};
+use crate::{Atom, Datum, KeyTable, Op, Payment, Seq, Slot, Test, Text, atom_holds};
+use indexmap::IndexSet;
+use std::alloc::Global;
+use std::collections::BTreeSet;
+use std::str;
 use std::test::Fail;
 
-// A value, a text by its length.
-#[derive(Clone, Copy, Debug)]
-enum Value {
-    Variant(u32),
-    Number(i64),
-    Letters(usize),
+// The parts of a text before and behind a letter.
+pub(crate) fn cut(text: &str, letter: char) -> Result<(&str, &str), Fail> {
+    Ok(text.split_once(letter).ok_or("a case lacks a part")?)
 }
 
-fn letters(rt: &impl AllocGlobal, count: usize) -> Result<Text, Fail> {
-    let bytes = vec![in rt.alloc(); b'a'; count]?;
-    Ok(Text::from_bytes(rt.alloc(), &bytes)?)
+// Fails where two texts of a case differ.
+pub(crate) fn same(found: &str, wanted: &str, case: &str) -> Result<(), Fail> {
+    if found == wanted {
+        return Ok(());
+    }
+    Err(Fail::new(format_args!("{found} is not {wanted} at {case}")))
 }
 
-fn datum(rt: &impl AllocGlobal, value: Value) -> Result<Datum, Fail> {
-    Ok(match value {
-        Value::Variant(variant) => Datum::Variant(variant),
-        Value::Number(number) => Datum::Number(number),
-        Value::Letters(count) => Datum::Text(letters(rt, count)?),
+// Fails where something is not so in a case.
+fn holds(is_so: bool, case: &str) -> Result<(), Fail> {
+    Ok(is_so.then_some(()).ok_or(case)?)
+}
+
+// The text of a template, in which a count, a star and an item between two bars stand for so many items. A # in them is the
+// number of the items that follow.
+pub(crate) fn expanded(alloc: Global, template: &str) -> Result<String, Fail> {
+    let mut text = String::new(alloc);
+    for part in template.split('|') {
+        match part.split_once('*') {
+            Some((count, item)) => push_items(alloc, &mut text, count.parse()?, item)?,
+            None => text.push_str(part)?,
+        }
+    }
+    Ok(text)
+}
+
+fn push_items(alloc: Global, text: &mut String, count: u32, item: &str) -> Result<(), Fail> {
+    for number in (0..count).rev() {
+        push_item(text, item, number.to_string(alloc)?.as_str())?;
+    }
+    Ok(())
+}
+
+fn push_item(text: &mut String, item: &str, number: &str) -> Result<(), Fail> {
+    let mut pieces = item.split('#');
+    if let Some(first) = pieces.next() {
+        text.push_str(first)?;
+    }
+    for piece in pieces {
+        text.push_str(number)?;
+        text.push_str(piece)?;
+    }
+    Ok(())
+}
+
+// A slot, as the number of its key and, behind a slash, its sub name.
+fn slot(alloc: Global, word: &str) -> Result<Slot, Fail> {
+    let Some((key, sub)) = word.split_once('/') else {
+        return Ok(Slot {
+            key: word.parse()?,
+            sub: None,
+        });
+    };
+    Ok(Slot {
+        key: key.parse()?,
+        sub: Some(Text::from_str(alloc, sub)?),
     })
 }
 
-// Whether the datum is this value.
-fn is(datum: &Datum, value: Value) -> bool {
-    match (datum, value) {
-        (Datum::Variant(variant), Value::Variant(wanted)) => *variant == wanted,
-        (Datum::Number(number), Value::Number(wanted)) => *number == wanted,
-        (Datum::Text(text), Value::Letters(wanted)) => text.as_bytes().len() == wanted,
-        _ => false,
-    }
+// A value, as its kind and what it is.
+fn datum(alloc: Global, word: &str) -> Result<Datum, Fail> {
+    let (kind, value) = cut(word, ':')?;
+    Ok(match kind {
+        "variant" => Datum::Variant(value.parse()?),
+        "text" => Datum::Text(Text::from_str(alloc, value)?),
+        _ => Datum::Number(value.parse()?),
+    })
 }
 
-fn slot(rt: &impl AllocGlobal, key: u32, sub: Option<&str>) -> Result<Slot, NoMemory> {
-    let sub = match sub {
-        Some(name) => Some(Text::from_str(rt.alloc(), name)?),
-        None => None,
-    };
-    Ok(Slot { key, sub })
+// A slot and what stands there.
+fn entry(alloc: Global, word: &str) -> Result<(Slot, Datum), Fail> {
+    let (place, value) = cut(word, '=')?;
+    Ok((slot(alloc, place)?, datum(alloc, value)?))
 }
 
-#[test]
-fn texts_are_utf8(rt: HostRuntime) -> Result<(), Fail> {
-    for word in ["", "card", "caf\u{e9}", "\u{20ac}\u{1f600}"] {
-        let text = Text::from_bytes(rt.alloc(), word.as_bytes())?;
-        assert_eq!(rt; text.as_bytes(), word.as_bytes());
-        assert_eq!(rt; text.as_str(), word);
-        assert_eq!(rt; text.copy()?.as_str(), word);
-        assert_eq!(rt; Text::from_str(rt.alloc(), word)?.as_str(), word);
-        assert!(rt; text.is(word.as_bytes()));
-        assert!(rt; !text.is(b"cards"));
-    }
-    // a byte that begins no character, half a character, one written too long, half a pair, one past the last
-    let others = [
-        b"card\xff".as_slice(),
-        b"\xc3".as_slice(),
-        b"\xc0\x80".as_slice(),
-        b"\xed\xa0\x80".as_slice(),
-        b"\xf4\x90\x80\x80".as_slice(),
-    ];
-    for bytes in others {
-        let fault = Text::from_bytes(rt.alloc(), bytes).err();
-        assert_eq!(rt; fault, Some(Stop::Fault(NotUtf8)), "at {bytes:?}");
-    }
-    Ok(())
-}
-
-#[test]
-fn copies_are_equal(rt: HostRuntime) -> Result<(), Fail> {
-    let plain = slot(&rt, 7, None)?.copy()?;
-    assert_eq!(rt; plain.key, 7);
-    assert!(rt; plain.sub.is_none());
-    let under = slot(&rt, 10, Some("order"))?.copy()?;
-    assert_eq!(rt; under.key, 10);
-    assert_eq!(rt; under.sub.as_ref().ok_or("no sub name")?.as_str(), "order");
-    for value in [Value::Variant(3), Value::Number(-5), Value::Letters(2)] {
-        let copy = datum(&rt, value)?.copy()?;
-        assert!(rt; is(&copy, value), "{copy:?} at {value:?}");
-    }
-    Ok(())
-}
-
-#[test]
-fn an_item_is_pushed_last(rt: HostRuntime) -> Result<(), Fail> {
-    let mut items = Seq::new(rt.alloc());
-    for item in [3, 1, 2] {
-        items.push(item)?;
-    }
-    assert_eq!(rt; items.as_slice(), [3, 1, 2].as_slice());
-    Ok(())
-}
-
-// Whether these are the variants of a key, in this order.
-fn has_variants(table: &KeyTable, key: u32, words: &str) -> bool {
-    for (place, word) in words.split_whitespace().enumerate() {
-        match table.variant(key, word.as_bytes()) {
-            Some(variant) if variant as usize == place => {
-                if table.variant_name(key, variant) != word.as_bytes() {
-                    return false;
-                }
-            }
-            _ => return false,
-        }
-    }
-    table.variants(key) as usize == words.split_whitespace().count()
-}
-
-// Whether the key with this number has this name and this kind.
-fn has_key(table: &KeyTable, number: u32, name: &str, kind: Kind) -> bool {
-    match table.find(name.as_bytes()) {
-        Some(key) => {
-            key == number && table.name_of(key) == name.as_bytes() && table.kind_of(key) == kind
-        }
-        None => false,
-    }
-}
-
-#[test]
-fn the_built_in_keys(rt: HostRuntime) -> Result<(), Fail> {
-    let keys = [
-        (
-            0,
-            "payment_method",
-            Kind::Enum,
-            "card wallet bank_transfer bank_redirect pay_later",
-        ),
-        (
-            1,
-            "payment_method_type",
-            Kind::Enum,
-            "credit debit google_pay apple_pay paypal klarna ach sepa ideal",
-        ),
-        (
-            2,
-            "card_network",
-            Kind::Enum,
-            "Visa Mastercard AmericanExpress Discover JCB",
-        ),
-        (3, "authentication_type", Kind::Enum, "three_ds no_three_ds"),
-        (4, "capture_method", Kind::Enum, "automatic manual"),
-        (5, "currency", Kind::Enum, "USD EUR GBP INR NOK JPY"),
-        (6, "billing_country", Kind::Enum, "US GB DE FR IN NO JP"),
-        (7, "amount", Kind::Number, ""),
-        (8, "card_bin", Kind::Text, ""),
-        (9, "business_label", Kind::Text, ""),
-        (10, "metadata", Kind::Metadata, ""),
-    ];
-    let table = KeyTable::built_in(rt.alloc())?;
-    assert_eq!(rt; table.count(), 11);
-    for (key, name, kind, variants) in keys {
-        assert!(rt; has_key(&table, key, name, kind), "at {name}");
-        assert!(rt; has_variants(&table, key, variants), "at {name}");
-    }
-    assert_eq!(rt; table.bounds(7), (0, 9223372036854775807));
-    Ok(())
-}
-
-#[test]
-fn names_that_are_not_there(rt: HostRuntime) -> Result<(), Fail> {
-    let table = KeyTable::built_in(rt.alloc())?;
-    for name in ["", "Amount", "amounts", "amoun", "card"] {
-        assert_eq!(rt; table.find(name.as_bytes()), None, "at {name}");
-    }
-    let cases = [
-        (0, ""),
-        (0, "Card"),
-        (0, "credit"),
-        (7, "card"),
-        (8, "card"),
-        (10, "card"),
-        (11, "card"),
-    ];
-    for (key, name) in cases {
-        assert_eq!(rt;
-            table.variant(key, name.as_bytes()),
-            None,
-            "at {name} of {key}"
-        );
-    }
-    assert_eq!(rt; table.variants(11), 0);
-    Ok(())
-}
-
-// Whether the value fits at the key and a sub name of this length.
-fn fits(
-    rt: &impl AllocGlobal,
-    table: &KeyTable,
-    key: u32,
-    length: Option<usize>,
-    value: Value,
-) -> Result<bool, Fail> {
-    let sub = match length {
-        Some(count) => Some(letters(rt, count)?),
-        None => None,
-    };
-    let datum = datum(rt, value)?;
-    Ok(table.datum_fits(&Slot { key, sub }, &datum))
-}
-
-#[test]
-fn what_fits(rt: HostRuntime) -> Result<(), Fail> {
-    let table = KeyTable::built_in(rt.alloc())?;
-    // a key, the length of a sub name, a value, and whether it fits
-    let cases = [
-        (0, None, Value::Variant(0), true),
-        (0, None, Value::Variant(4), true),
-        (0, None, Value::Variant(5), false),
-        (0, None, Value::Number(0), false),
-        (0, None, Value::Letters(4), false),
-        (0, Some(1), Value::Variant(0), false),
-        (7, None, Value::Number(-1), false),
-        (7, None, Value::Number(0), true),
-        (7, None, Value::Number(9223372036854775807), true),
-        (7, None, Value::Variant(0), false),
-        (7, Some(1), Value::Number(0), false),
-        (8, None, Value::Letters(0), true),
-        (8, None, Value::Letters(1024), true),
-        (8, None, Value::Letters(1025), false),
-        (8, None, Value::Variant(0), false),
-        (8, Some(1), Value::Letters(1), false),
-        (10, Some(0), Value::Letters(0), true),
-        (10, Some(255), Value::Letters(1024), true),
-        (10, Some(256), Value::Letters(1), false),
-        (10, Some(1), Value::Letters(1025), false),
-        (10, Some(1), Value::Number(0), false),
-        (10, None, Value::Letters(1), false),
-        (11, None, Value::Letters(1), false),
-        (4294967295, Some(1), Value::Letters(1), false),
-    ];
-    for (key, length, value, wanted) in cases {
-        let found = fits(&rt, &table, key, length, value)?;
-        assert_eq!(rt;
-            found,
-            wanted,
-            "{value:?} at {key} and a sub name of {length:?}"
-        );
-    }
-    Ok(())
-}
-
-// Whether this is the value at a slot, by get and by value_at.
-fn is_at(
-    rt: &impl AllocGlobal,
-    payment: &Payment,
-    key: u32,
-    sub: Option<&str>,
-    value: Value,
-) -> Result<bool, Fail> {
-    let slot = slot(rt, key, sub)?;
-    let got = payment.get(&slot).is_some_and(|datum| is(datum, value));
-    let seen = payment
-        .value_at(key, slot.sub.as_ref())
-        .is_some_and(|datum| is(datum, value));
-    Ok(got && seen)
-}
-
-// Whether no value is at a slot, by get and by value_at.
-fn is_absent(
-    rt: &impl AllocGlobal,
-    payment: &Payment,
-    key: u32,
-    sub: Option<&str>,
-) -> Result<bool, Fail> {
-    let slot = slot(rt, key, sub)?;
-    Ok(payment.get(&slot).is_none() && payment.value_at(key, slot.sub.as_ref()).is_none())
-}
-
-// Whether the slot and the value stand at a place.
-fn stands(payment: &Payment, place: usize, key: u32, sub: Option<&str>, value: Value) -> bool {
-    if place >= payment.count() {
-        return false;
-    }
-    let slot = payment.slot_of(place);
-    slot.key == key
-        && slot.sub.as_ref().map(Text::as_str) == sub
-        && is(payment.datum_of(place), value)
-}
-
-// A payment whose slots were put last, first, between, over one that was there, and by sub names.
-fn filled(rt: &impl AllocGlobal) -> Result<Payment, Fail> {
-    let mut payment = Payment::empty(rt.alloc());
-    let puts = [
-        (10, Some("b"), Value::Letters(3)),
-        (0, None, Value::Variant(1)),
-        (7, None, Value::Number(340)),
-        (5, None, Value::Variant(2)),
-        (7, None, Value::Number(341)),
-        (10, Some("aa"), Value::Letters(2)),
-        (10, Some("B"), Value::Letters(1)),
-        (10, Some("\u{e9}"), Value::Letters(4)),
-    ];
-    for (key, sub, value) in puts {
-        payment.put(slot(rt, key, sub)?, datum(rt, value)?)?;
+// The payment in which entries were put, one after the other.
+fn payment(alloc: Global, entries: &str) -> Result<Payment, Fail> {
+    let mut payment = Payment::empty(alloc);
+    for word in entries.split(';') {
+        let (slot, datum) = entry(alloc, word)?;
+        payment.put(slot, datum)?;
     }
     Ok(payment)
 }
 
-#[test]
-fn slots_of_a_payment(rt: HostRuntime) -> Result<(), Fail> {
-    let payment = filled(&rt)?;
-    let ascending = [
-        (0, 0, None, Value::Variant(1)),
-        (1, 5, None, Value::Variant(2)),
-        (2, 7, None, Value::Number(341)),
-        (3, 10, Some("B"), Value::Letters(1)),
-        (4, 10, Some("aa"), Value::Letters(2)),
-        (5, 10, Some("b"), Value::Letters(3)),
-        (6, 10, Some("\u{e9}"), Value::Letters(4)),
-    ];
-    assert_eq!(rt; payment.count(), 7);
-    for (place, key, sub, value) in ascending {
-        assert!(rt;
-            stands(&payment, place, key, sub, value),
-            "at place {place}"
-        );
-        assert!(rt;
-            is_at(&rt, &payment, key, sub, value)?,
-            "at {key} and {sub:?}"
-        );
+fn op(word: &str) -> Result<Op, Fail> {
+    Ok(match word {
+        "=" => Op::Equal,
+        "!=" => Op::NotEqual,
+        "<" => Op::Less,
+        "<=" => Op::LessEqual,
+        ">" => Op::Greater,
+        ">=" => Op::GreaterEqual,
+        _ => return Err("no operator".into()),
+    })
+}
+
+// A test, as its kind and what it asks for.
+fn test(alloc: Global, word: &str) -> Result<Test, Fail> {
+    let (kind, value) = cut(word, ':')?;
+    Ok(match kind {
+        "variant" => Test::Variant(value.parse()?),
+        "text" => Test::Text(String::from_str(alloc, value)?.into()),
+        _ => Test::Number(op(kind)?, value.parse()?),
+    })
+}
+
+fn tests(alloc: Global, words: &str) -> Result<Seq<Test>, Fail> {
+    let mut tests = Seq::new(alloc);
+    for word in words.split_whitespace() {
+        tests.push(test(alloc, word)?)?;
+    }
+    Ok(tests)
+}
+
+// An atom, as `any` or `none`, its slot and its tests.
+fn atom(alloc: Global, text: &str) -> Result<Atom, Fail> {
+    let (how, rest) = cut(text, ' ')?;
+    let (place, words) = rest.split_once(' ').unwrap_or((rest, ""));
+    Ok(Atom {
+        slot: slot(alloc, place)?,
+        none_of: how == "none",
+        tests: tests(alloc, words)?,
+    })
+}
+
+// The keys by which ATOMS is judged.
+const KEYS: &[u8] = br#"key = [
+{ name = "method", kind = "enum", variants = ["card", "wallet"] },
+{ name = "amount", kind = "number", min = 10, max = 20 },
+{ name = "bin", kind = "text" },
+{ name = "data", kind = "metadata" },
+]"#;
+
+// A payment and an atom, after four marks, each 1 or 0: whether each slot is legal, whether the payment is, whether the atom
+// fits, and whether it holds of the payment. No two lines have one atom.
+const ATOMS: &str = "1111 0=variant:0 any 0 variant:0
+1111 0=variant:1 any 0 variant:1 variant:0
+1110 0=variant:1 none 0 variant:0 variant:1
+1111 0=variant:0 none 0 variant:1
+1110 0=variant:0 any 0 variant:1
+1001 0=variant:2 any 0 variant:2
+1001 0=number:0 any 0 =:0
+1001 0=text:card any 0 text:card
+0001 0/a=variant:0 any 0/a variant:0
+1110 0=variant:0 any 1 =:5
+1110 0=variant:0 none 1 =:5
+1011 1=number:9 any 1 =:9
+1111 1=number:10 any 1 =:10
+1111 1=number:20 any 1 =:20
+1011 1=number:21 any 1 =:21
+1001 1=variant:15 any 1 variant:15
+1001 1=text:15 any 1 text:15
+0001 1/a=number:15 any 1/a =:15
+1110 1=number:15 any 1 =:14
+1111 1=number:15 any 1 =:15
+1110 1=number:15 any 1 =:16
+1111 1=number:15 any 1 !=:14
+1110 1=number:15 any 1 !=:15
+1111 1=number:15 any 1 !=:16
+1110 1=number:15 any 1 <:14
+1110 1=number:15 any 1 <:15
+1111 1=number:15 any 1 <:16
+1110 1=number:15 any 1 <=:14
+1111 1=number:15 any 1 <=:15
+1111 1=number:15 any 1 <=:16
+1111 1=number:15 any 1 >:14
+1110 1=number:15 any 1 >:15
+1110 1=number:15 any 1 >:16
+1111 1=number:15 any 1 >=:14
+1111 1=number:15 any 1 >=:15
+1110 1=number:15 any 1 >=:16
+1110 1=number:15 any 1
+1111 1=number:15 none 1
+1111 1=number:15 none 1 <:15 >:15
+1111 1=number:15 any 1 |4096*<=:# |
+1101 1=number:15 any 1 |4097*<=:# |
+1111 2=text: any 2 text:
+1110 2=text:card any 2 text:car text:cards text:Card
+1111 2=text:|255*a| any 2 text:|255*a|
+1101 2=text:|256*a| any 2 text:|256*a|
+1111 2=text:|1024*a| none 2 text:a
+1011 2=text:|1025*a| none 2 text:b
+1001 2=variant:0 any 2 variant:0
+1001 2=number:0 any 2 =:0
+0001 2/a=text:a any 2/a text:a
+1111 3/=text: any 3/ text:
+1111 3/|255*s|=text:a any 3/|255*s| text:a
+0001 3/|256*s|=text:a any 3/|256*s| text:a
+1111 3/a=text:|255*a| any 3/a text:|255*a|
+1101 3/a=text:|256*a| any 3/a text:|256*a|
+1111 3/a=text:|1024*a| none 3/a text:a
+1011 3/a=text:|1025*a| none 3/a text:b
+1001 3/a=variant:0 any 3/a variant:0
+1001 3/a=number:0 any 3/a =:0
+1110 3/a=text:a any 3/b text:a
+0001 3=text:a any 3 text:a
+0001 4=text:a any 4 text:a
+0001 4294967295=number:0 any 4294967295 =:0
+1111 0=variant:0;1=number:10;3/a=text:a any 3/a text:a text:b
+1011 0=variant:0;1=number:9;3/a=text:a any 3/a text:b text:a
+0011 0=variant:0;2/a=text:a any 0 variant:0 variant:1";
+
+// Whether each slot of a payment is legal.
+fn slots_fit(table: &KeyTable, payment: &Payment) -> bool {
+    for (slot, _) in payment.iter() {
+        if !table.slot_fits(slot) {
+            return false;
+        }
+    }
+    true
+}
+
+fn mark(is_so: bool) -> u8 {
+    if is_so { b'1' } else { b'0' }
+}
+
+fn marks(table: &KeyTable, payment: &Payment, atom: &Atom) -> [u8; 4] {
+    [
+        mark(slots_fit(table, payment)),
+        mark(payment.legal(table)),
+        mark(table.atom_fits(atom)),
+        mark(atom_holds(atom, payment)),
+    ]
+}
+
+// The atom of a line.
+fn atom_of(alloc: Global, line: &str) -> Result<Atom, Fail> {
+    let (_, rest) = cut(line, ' ')?;
+    let (_, words) = cut(rest, ' ')?;
+    atom(alloc, words)
+}
+
+fn judge(alloc: Global, table: &KeyTable, line: &str) -> Result<(), Fail> {
+    let (wanted, rest) = cut(line, ' ')?;
+    let (entries, _) = cut(rest, ' ')?;
+    let payment = payment(alloc, entries)?;
+    let found = marks(table, &payment, &atom_of(alloc, line)?);
+    same(str::from_utf8(&found)?, wanted, line)
+}
+
+fn judge_each(alloc: Global, lines: &str) -> Result<(), Fail> {
+    let table = KeyTable::from_toml(alloc, KEYS)?;
+    for line in lines.lines() {
+        judge(alloc, &table, line)?;
     }
     Ok(())
 }
 
+fn add_copy(atoms: &mut BTreeSet<Atom>, atom: &Atom) -> Result<(), Fail> {
+    atoms.insert(atom.copy()?)?;
+    Ok(())
+}
+
+// The number of atoms of lines, by their order.
+fn count_atoms(alloc: Global, lines: &str) -> Result<usize, Fail> {
+    let mut atoms = BTreeSet::new(alloc);
+    for line in lines.lines() {
+        add_copy(&mut atoms, &atom_of(alloc, line)?)?;
+    }
+    Ok(atoms.len())
+}
+
 #[test]
-fn slots_that_are_not_there(rt: HostRuntime) -> Result<(), Fail> {
-    let payment = filled(&rt)?;
-    for (key, sub) in [
-        (1, None),
-        (0, Some("a")),
-        (10, None),
-        (10, Some("a")),
-        (11, None),
-    ] {
-        assert!(rt; is_absent(&rt, &payment, key, sub)?, "at {key} and {sub:?}");
+fn atoms_fit_and_hold(rt: HostRuntime) -> Result<(), Fail> {
+    let lines = expanded(rt.alloc(), ATOMS)?;
+    judge_each(rt.alloc(), lines.as_str())?;
+    let count = count_atoms(rt.alloc(), lines.as_str())?;
+    holds(count == ATOMS.lines().count(), "the number of atoms")
+}
+
+// The number of slots that are there, what was put one after the other, and then what stands at places, or where nothing
+// stands.
+const PAYMENTS: &str = "9
+10/b=text:B;0=variant:1;7=number:340;5=variant:2;7=number:341;10/=text:E;10/aa=text:A;10/B=text:C;10/é=text:D;10=number:-1
+0 0=variant:1
+1 5=variant:2
+2 7=number:341
+3 10=number:-1
+4 10/=text:E
+5 10/B=text:C
+6 10/aa=text:A
+7 10/b=text:B
+8 10/é=text:D
+- 1
+- 0/a
+- 10/a
+- 11
+===
+10001
+|10000*10/#=text:#;|10=variant:0
+0 10=variant:0
+1 10/0=text:0
+4 10/100=text:100
+15 10/101=text:101
+9990 10/999=text:999
+9991 10/9990=text:9990
+10000 10/9999=text:9999
+- 10/10000
+- 9/0
+- 11/0
+";
+
+// The number of slots that are put, by hash.
+fn count_slots(alloc: Global, entries: &str) -> Result<usize, Fail> {
+    let mut slots = IndexSet::new(alloc);
+    for word in entries.split(';') {
+        let (place, _) = cut(word, '=')?;
+        slots.insert(slot(alloc, place)?)?;
+    }
+    Ok(slots.len())
+}
+
+// Whether the entry is found, and stands at the place, behind a lesser slot.
+fn stands(payment: &Payment, place: usize, slot: &Slot, datum: &Datum) -> bool {
+    place < payment.count()
+        && payment.get(slot) == Some(datum)
+        && payment.slot_of(place) == slot
+        && payment.datum_of(place) == datum
+        && (place == 0 || payment.slot_of(place - 1) < slot)
+}
+
+fn is_absent(alloc: Global, payment: &Payment, place: &str) -> Result<bool, Fail> {
+    Ok(payment.get(&slot(alloc, place)?).is_none())
+}
+
+// Whether a line is right of a payment.
+fn is_so(alloc: Global, payment: &Payment, line: &str) -> Result<bool, Fail> {
+    let (place, word) = cut(line, ' ')?;
+    if place == "-" {
+        return is_absent(alloc, payment, word);
+    }
+    let (slot, datum) = entry(alloc, word)?;
+    Ok(stands(payment, place.parse()?, &slot, &datum))
+}
+
+fn check_lines(alloc: Global, payment: &Payment, lines: &str) -> Result<(), Fail> {
+    for line in lines.lines() {
+        holds(is_so(alloc, payment, line)?, line)?;
     }
     Ok(())
 }
 
-#[test]
-fn sub_names_in_falling_order(rt: HostRuntime) -> Result<(), Fail> {
-    let mut payment = Payment::empty(rt.alloc());
-    // a number as a sub name, under one of three keys
-    for number in (1000..2100_u32).rev() {
-        let name = format!(in rt.alloc(); "{number}")?;
-        let slot = slot(&rt, 10 + number % 3, Some(&name))?;
-        payment.put(slot, Datum::Number(i64::from(number)))?;
-    }
-    assert_eq!(rt; payment.count(), 1100);
-    // the 366 multiples of 3, then the 367 numbers that leave 1, then the 367 that leave 2
-    let ascending = [
-        (0, 10, "1002", 1002),
-        (1, 10, "1005", 1005),
-        (365, 10, "2097", 2097),
-        (366, 11, "1000", 1000),
-        (549, 11, "1549", 1549),
-        (732, 11, "2098", 2098),
-        (733, 12, "1001", 1001),
-        (1099, 12, "2099", 2099),
-    ];
-    for (place, key, name, number) in ascending {
-        let (sub, value) = (Some(name), Value::Number(number));
-        assert!(rt;
-            stands(&payment, place, key, sub, value),
-            "at place {place}"
-        );
-        assert!(rt;
-            is_at(&rt, &payment, key, sub, value)?,
-            "at {key} and {name}"
-        );
-    }
-    for (key, name) in [
-        (9, "1000"),
-        (10, "1000"),
-        (11, "999"),
-        (12, "2102"),
-        (13, "1000"),
-    ] {
-        assert!(rt;
-            is_absent(&rt, &payment, key, Some(name))?,
-            "at {key} and {name}"
-        );
-    }
-    payment.put(slot(&rt, 11, Some("1549"))?, Datum::Number(-1))?;
-    assert_eq!(rt; payment.count(), 1100);
-    assert!(rt; stands(&payment, 549, 11, Some("1549"), Value::Number(-1)));
-    Ok(())
+fn check_payment(alloc: Global, case: &str) -> Result<(), Fail> {
+    let (count, rest) = cut(case, '\n')?;
+    let (entries, lines) = cut(rest, '\n')?;
+    let count = count.parse()?;
+    holds(count_slots(alloc, entries)? == count, entries)?;
+    let payment = payment(alloc, entries)?.copy()?;
+    holds(payment.count() == count, entries)?;
+    check_lines(alloc, &payment, lines)
 }
 
 #[test]
-fn each_entry_of_a_legal_payment_fits(rt: HostRuntime) -> Result<(), Fail> {
-    let table = KeyTable::built_in(rt.alloc())?;
-    let mut payment = Payment::empty(rt.alloc());
-    // the payment after each put, and whether it is legal
-    let puts = [
-        (0, None, Value::Variant(4), true),
-        (10, Some("order"), Value::Letters(1024), true),
-        (7, None, Value::Number(-1), false),
-        (8, None, Value::Letters(6), false),
-        (7, None, Value::Number(0), true),
-    ];
-    assert!(rt; payment.legal(&table));
-    for (key, sub, value, is_legal) in puts {
-        payment.put(slot(&rt, key, sub)?, datum(&rt, value)?)?;
-        assert_eq!(rt; payment.legal(&table), is_legal, "after {value:?} at {key}");
+fn payments_have_what_was_put(rt: HostRuntime) -> Result<(), Fail> {
+    let text = expanded(rt.alloc(), PAYMENTS)?;
+    for case in text.split("===\n") {
+        check_payment(rt.alloc(), case)?;
     }
     Ok(())
 }

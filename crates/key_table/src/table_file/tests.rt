@@ -1,25 +1,26 @@
 ghost use Rattle.std.specs.Prelude.{◌<◌, length};
 
-use crate::{KeyTable, Kind, Stop};
-use std::str;
+use super::*;
+use crate::Kind;
+use crate::tests::{cut, expanded, same};
 use std::test::Fail;
 
-// Files, each after a line with its fault, as code and key, or with the number of its keys.
-const FILES: &str = r#"0 keys
+// Files, each after a line with its keys, or with its fault as code and key.
+const FILES: &str = r#"
 ===
-0 keys
+
 other = 1
 ===
-0 keys
+
 key = []
 ===
-1 keys
+_a9 metadata;
 [[key]]
 name = "_a9"
 kind = "metadata"
 colour = "red"
 ===
-2 keys
+a text;A enum;
 key = [{ name = "a", kind = "text" }, { name = "A", kind = "enum", variants = [] }]
 ===
 1 -
@@ -175,167 +176,177 @@ kind = "number"
 min = 6
 max = 5
 ===
-1 keys
+a 5 5;
 [[key]]
 name = "a"
 kind = "number"
 min = 5
 max = 5
 ===
-1 keys
+a -9223372036854775808 9223372036854775807;
 [[key]]
 name = "a"
 kind = "number"
 min = -9223372036854775808
 max = 9223372036854775807
 ===
-1 keys
+a text;
 [[key]]
 name = "a"
 kind = "text"
 min = 6
 max = "5"
 variants = 1
+===
+a -9223372036854775808 7;
+[[key]]
+name = "a"
+kind = "number"
+max = 7
+===
+b 7 9223372036854775807;a enum c d;
+[[key]]
+name = "b"
+kind = "number"
+min = 7
+[[key]]
+name = "a"
+kind = "enum"
+variants = ["c", "d"]
+===
+|256*k# text;|
+key = [|256*{ name = "k#", kind = "text" }, |]
+===
+6 256
+key = [|257*{ name = "k#", kind = "text" }, |]
+===
+6 256
+key = [|256*{ name = "k#", kind = "text" }, |"b"]
+===
+2 0
+key = [{ name = "a", kind = "float" }, |256*{ name = "k#", kind = "text" }, |]
+===
+a enum|1024* v#|;
+key = [{ name = "a", kind = "enum", variants = [|1024*"v#", |] }]
+===
+6 0
+key = [{ name = "a", kind = "enum", variants = [|1025*"v#", |] }]
+===
+6 0
+key = [{ name = "a", kind = "enum", variants = [1, |1024*"v#", |] }]
+===
+|255*n| enum |255*v|;
+key = [{ name = "|255*n|", kind = "enum", variants = ["|255*v|"] }]
+===
+6 0
+key = [{ name = "|256*n|", kind = "text" }]
+===
+3 0
+key = [{ name = "|255*n| ", kind = "text" }]
+===
+6 0
+key = [{ name = "a", kind = "enum", variants = ["|256*v|"] }]
+===
+3 0
+key = [{ name = "a", kind = "enum", variants = ["|255*v| "] }]
 "#;
 
-// What a file gives: the number of its keys, or its fault as code and key.
-fn outcome(rt: &impl AllocGlobal, bytes: &[u8]) -> Result<String, Fail> {
-    let fault = match KeyTable::from_toml(rt.alloc(), bytes) {
-        Ok(table) => {
-            let count = table.count();
-            return Ok(format!(in rt.alloc(); "{count} keys")?);
+// The keys of the built-in table.
+const BUILT_IN: &str = "payment_method enum card wallet bank_transfer bank_redirect pay_later;\
+    payment_method_type enum credit debit google_pay apple_pay paypal klarna ach sepa ideal;\
+    card_network enum Visa Mastercard AmericanExpress Discover JCB;\
+    authentication_type enum three_ds no_three_ds;\
+    capture_method enum automatic manual;\
+    currency enum USD EUR GBP INR NOK JPY;\
+    billing_country enum US GB DE FR IN NO JP;\
+    amount 0 9223372036854775807;\
+    card_bin text;\
+    business_label text;\
+    metadata metadata;";
+
+// The keys of a table, each as its name, where it is found by that, and what may stand at its slots.
+fn described(alloc: Global, table: &KeyTable) -> Result<String, Fail> {
+    let mut text = String::new(alloc);
+    for key in 0..table.count() {
+        if table.find(table.name_of(key)) == Some(key) {
+            text.push_str(table.name_as_str(key))?;
         }
-        Err(Stop::Memory) => return Err("no memory".into()),
-        Err(Stop::Fault(fault)) => fault,
-    };
+        push_domain(alloc, &mut text, table, key)?;
+        text.push(';')?;
+    }
+    Ok(text)
+}
+
+fn push_domain(alloc: Global, text: &mut String, table: &KeyTable, key: u32) -> Result<(), Fail>
+    requires { key < length table.now }
+{
+    match table.kind_of(key) {
+        Kind::Enum => push_variants(text, table, key),
+        Kind::Number => push_bounds(alloc, text, table.bounds(key)),
+        Kind::Text => Ok(text.push_str(" text")?),
+        Kind::Metadata => Ok(text.push_str(" metadata")?),
+    }
+}
+
+fn push_bounds(
+    alloc: Global,
+    text: &mut String,
+    (least, greatest): (i64, i64),
+) -> Result<(), Fail> {
+    Ok(text.push_str(format!(in alloc; " {least} {greatest}")?.as_str())?)
+}
+
+// Each variant that is found by its name.
+fn push_variants(text: &mut String, table: &KeyTable, key: u32) -> Result<(), Fail> {
+    text.push_str(" enum")?;
+    for variant in 0..table.variants(key) {
+        if table.variant(key, table.variant_name(key, variant)) == Some(variant) {
+            text.push(' ')?;
+            text.push_str(table.variant_as_str(key, variant))?;
+        }
+    }
+    Ok(())
+}
+
+// A fault as its code and its key.
+fn written(alloc: Global, fault: TableError) -> Result<String, Fail> {
     let code = fault.code;
     Ok(match fault.key {
-        Some(key) => format!(in rt.alloc(); "{code} {key}")?,
-        None => format!(in rt.alloc(); "{code} -")?,
+        Some(key) => format!(in alloc; "{code} {key}")?,
+        None => format!(in alloc; "{code} -")?,
     })
 }
 
-#[test]
-fn files_and_their_faults(rt: HostRuntime) -> Result<(), Fail> {
-    for case in FILES.split("===\n") {
-        let (wanted, text) = case.split_once('\n').ok_or("a case has no first line")?;
-        let found = outcome(&rt, text.as_bytes())?;
-        assert_eq!(rt; found.as_str(), wanted, "at {text}");
+// What a file gives: its keys, or its fault.
+fn outcome(alloc: Global, bytes: &[u8]) -> Result<String, Fail> {
+    match KeyTable::from_toml(alloc, bytes) {
+        Ok(table) => described(alloc, &table),
+        Err(Stop::Memory) => Err("no memory".into()),
+        Err(Stop::Fault(fault)) => written(alloc, fault),
+    }
+}
+
+fn check_files(alloc: Global, cases: &str) -> Result<(), Fail> {
+    for case in cases.split("===\n") {
+        let (wanted, file) = cut(case, '\n')?;
+        same(outcome(alloc, file.as_bytes())?.as_str(), wanted, file)?;
     }
     Ok(())
 }
 
-#[test]
-fn bytes_that_are_no_text(rt: HostRuntime) -> Result<(), Fail> {
-    assert_eq!(rt; outcome(&rt, b"a = \"\xff\"\n")?.as_str(), "1 -");
-    Ok(())
-}
-
-// A file of so many text keys, k0, k1 and so on.
-fn many_keys(rt: &impl AllocGlobal, count: u32) -> Result<String, Fail> {
-    let mut file = String::new(rt.alloc());
-    for key in 0..count {
-        let entry = format!(in rt.alloc(); "[[key]]\nname = \"k{key}\"\nkind = \"text\"\n")?;
-        file.push_str(entry.as_str())?;
-    }
-    Ok(file)
-}
-
-// A file of one enum key with so many variants, v0, v1 and so on.
-fn many_variants(rt: &impl AllocGlobal, count: u32) -> Result<String, Fail> {
-    let mut file = String::from_str(
-        rt.alloc(),
-        "[[key]]\nname = \"a\"\nkind = \"enum\"\nvariants = [",
-    )?;
-    for variant in 0..count {
-        let item = format!(in rt.alloc(); "\"v{variant}\", ")?;
-        file.push_str(item.as_str())?;
-    }
-    file.push_str("]\n")?;
-    Ok(file)
-}
-
-// A file of one enum key, whose name and whose variant have so many letters.
-fn long_names(rt: &impl AllocGlobal, name: usize, variant: usize) -> Result<String, Fail> {
-    let name = letters(rt, name)?;
-    let name = name.as_str();
-    let variant = letters(rt, variant)?;
-    let variant = variant.as_str();
-    Ok(format!(in rt.alloc();
-        "[[key]]\nname = \"{name}\"\nkind = \"enum\"\nvariants = [\"{variant}\"]\n"
-    )?)
-}
-
-fn letters(rt: &impl AllocGlobal, count: usize) -> Result<String, Fail> {
-    let mut text = String::new(rt.alloc());
-    for _ in 0..count {
-        text.push('a')?;
-    }
-    Ok(text)
+fn check_built_in(alloc: Global) -> Result<(), Fail> {
+    let table = KeyTable::built_in(alloc)?;
+    same(
+        described(alloc, &table)?.as_str(),
+        BUILT_IN,
+        "the built-in table",
+    )
 }
 
 #[test]
-fn limits_and_their_neighbours(rt: HostRuntime) -> Result<(), Fail> {
-    let found = outcome(&rt, many_keys(&rt, 256)?.as_bytes())?;
-    assert_eq!(rt; found.as_str(), "256 keys");
-    let found = outcome(&rt, many_keys(&rt, 257)?.as_bytes())?;
-    assert_eq!(rt; found.as_str(), "6 256");
-    let found = outcome(&rt, many_variants(&rt, 1024)?.as_bytes())?;
-    assert_eq!(rt; found.as_str(), "1 keys");
-    let found = outcome(&rt, many_variants(&rt, 1025)?.as_bytes())?;
-    assert_eq!(rt; found.as_str(), "6 0");
-    let found = outcome(&rt, long_names(&rt, 255, 255)?.as_bytes())?;
-    assert_eq!(rt; found.as_str(), "1 keys");
-    let found = outcome(&rt, long_names(&rt, 256, 1)?.as_bytes())?;
-    assert_eq!(rt; found.as_str(), "6 0");
-    let found = outcome(&rt, long_names(&rt, 1, 256)?.as_bytes())?;
-    assert_eq!(rt; found.as_str(), "6 0");
-    Ok(())
-}
-
-// A key of a table as TOML.
-fn written_key(rt: &impl AllocGlobal, table: &KeyTable, key: u32) -> Result<String, Fail>
-    requires { key < length table.now }
-{
-    let name = str::from_utf8(table.name_of(key))?;
-    let mut text = format!(in rt.alloc(); "[[key]]\nname = \"{name}\"\n")?;
-    match table.kind_of(key) {
-        Kind::Enum => {
-            text.push_str("kind = \"enum\"\nvariants = [")?;
-            for variant in 0..table.variants(key) {
-                let name = str::from_utf8(table.variant_name(key, variant))?;
-                text.push_str(format!(in rt.alloc(); "\"{name}\", ")?.as_str())?;
-            }
-            text.push_str("]\n")?;
-        }
-        Kind::Number => {
-            let (least, greatest) = table.bounds(key);
-            let bounds = format!(in rt.alloc();
-                "kind = \"number\"\nmin = {least}\nmax = {greatest}\n"
-            )?;
-            text.push_str(bounds.as_str())?;
-        }
-        Kind::Text => text.push_str("kind = \"text\"\n")?,
-        Kind::Metadata => text.push_str("kind = \"metadata\"\n")?,
-    }
-    Ok(text)
-}
-
-// A table as TOML.
-fn written(rt: &impl AllocGlobal, table: &KeyTable) -> Result<String, Fail> {
-    let mut file = String::new(rt.alloc());
-    for key in 0..table.count() {
-        file.push_str(written_key(rt, table, key)?.as_str())?;
-    }
-    Ok(file)
-}
-
-#[test]
-fn a_written_table_reads_back(rt: HostRuntime) -> Result<(), Fail> {
-    let table = KeyTable::built_in(rt.alloc())?;
-    let file = written(&rt, &table)?;
-    let back = KeyTable::from_toml(rt.alloc(), file.as_bytes())?;
-    assert_eq!(rt; back.count(), 11);
-    assert_eq!(rt; written(&rt, &back)?.as_str(), file.as_str());
-    Ok(())
+fn files_are_tables_or_faults(rt: HostRuntime) -> Result<(), Fail> {
+    check_built_in(rt.alloc())?;
+    let found = outcome(rt.alloc(), b"a = \"\xff\"\n")?;
+    same(found.as_str(), "1 -", "bytes that are no text")?;
+    check_files(rt.alloc(), expanded(rt.alloc(), FILES)?.as_str())
 }
