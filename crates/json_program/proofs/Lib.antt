@@ -1,4 +1,3 @@
 pub mod Each
 pub mod EachCounted
-pub mod Lists
 pub mod WrittenLemmas

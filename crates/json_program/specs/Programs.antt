@@ -1,15 +1,15 @@
 -- Programs in JSON.
-use Rattle.std.specs.Prelude.{ℕ, List, [], codes, false, not, Option, option_and_then, Result, Ok, Err, ⊤, bytes_eq}
+use Rattle.std.specs.Prelude.{ℕ, List, [], codes, false, not, Result, Ok, Err, ⊤}
 use Rattle.std.specs.Option.{option_map_or}
 use Rattle.key_table.specs.Answers as answers
+use Rattle.key_table.specs.Answers.{provided}
 use Rattle.serde_json.specs.Data.{Data}
 use Rattle.serde_json.specs.Find.{get}
 use Rattle.euclid_ast.specs.declared.program.Rule.{Rule}
 use Rattle.euclid_ast.specs.declared.program.Program.{Program}
-use Rattle.json_program.specs.declared.counts.Counts.{Counts}
 use Rattle.json_program.specs.declared.error.Unbuilt.{Unbuilt}
 use Rattle.json_program.specs.declared.error.JsonError.{JsonError}
-use Rattle.json_program.specs.Shapes.{json_of, field_of, is_string, list_of, provided}
+use Rattle.json_program.specs.Shapes.{json_of, field_of, is_string, list_of, unbuilt}
 use Rattle.json_program.specs.Counted.{Reading, ◌>>=◌, pure, plain, none_begun, each}
 use Rattle.json_program.specs.Selections.{selection_of}
 use Rattle.json_program.specs.Statements.{name_of, statement_of}
@@ -26,7 +26,7 @@ rule_of d = do
 
 -- that the program stands in no wrapper
 abbrev pub bare : Data → Result ⊤ Unbuilt
-bare d = provided (not (option_map_or (is_string (codes "advanced")) (get (codes "type") d) false))
+bare d = provided unbuilt (not (option_map_or (is_string (codes "advanced")) (get (codes "type") d) false))
 
 unfoldable pub program_of : Data → Reading Program
 program_of d = do
@@ -46,10 +46,10 @@ plain_program_of bytes = answers.◌>>=◌ (json_of bytes) (λ d. answers.◌>>=
 abbrev pub unbuilt_error : JsonError
 unbuilt_error = record { code = 0; path = [] }
 
-abbrev pub or_fault : {A : Type 0} → Result A Unbuilt → Result A JsonError
-or_fault (Ok x) = Ok x
-or_fault (Err e) = Err unbuilt_error
+abbrev pub at_root : {A : Type 0} → Result A Unbuilt → Result A JsonError
+at_root (Ok x) = Ok x
+at_root (Err e) = Err unbuilt_error
 
 -- The program that a file is, or Unbuilt exactly where the file is not plain.
 abbrev pub program_file : List ℕ → Result Program JsonError
-program_file bytes = or_fault (plain_program_of bytes)
+program_file bytes = at_root (plain_program_of bytes)

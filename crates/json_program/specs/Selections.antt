@@ -1,18 +1,18 @@
 -- Selections in JSON. A plain one is a priority list.
-use Rattle.std.specs.Prelude.{ℕ, List, codes, Result, Ok}
+use Rattle.std.specs.Prelude.{codes, Result, Ok}
 use Rattle.key_table.specs.Answers.{◌>>=◌}
 use Rattle.serde_json.specs.Data.{Data}
 use Rattle.euclid_ast.specs.declared.selection.Account.{Account}
 use Rattle.euclid_ast.specs.declared.selection.Selection.{Selection}
 use Rattle.euclid_ast.specs.declared.selection.Selection.TheVariants.{Priority}
 use Rattle.json_program.specs.declared.error.Unbuilt.{Unbuilt}
-use Rattle.json_program.specs.Shapes.{field_of, optional_of, string_of, text_of, list_of, the_optional, each}
+use Rattle.json_program.specs.Shapes.{field_of, optional_of, string_of, short_text_of, list_of, the_optional, each}
 
 unfoldable pub account_of : Data → Result Account Unbuilt
 account_of d = do
   node ← field_of (codes "connector") d
-  connector ← text_of 255 node
-  id ← the_optional (text_of 255) (optional_of (codes "merchant_connector_id") d)
+  connector ← short_text_of node
+  id ← the_optional short_text_of (optional_of (codes "merchant_connector_id") d)
   Ok (record { connector = connector; id = id })
 
 abbrev pub selection_of : Data → Result Selection Unbuilt

@@ -1,22 +1,18 @@
 -- What stands in JSON, or that the file is not plain.
-use Rattle.std.specs.Prelude.{ℕ, List, [], ◌∷◌, length, bytes_eq, Bool, true, false, nat_le, ◌&&◌, if◌then◌else◌, Option, Some, None, option_and_then, Result, Ok, Err, ⊤}
+use Rattle.std.specs.Prelude.{ℕ, List, [], ◌∷◌, bytes_eq, Bool, false, Option, Some, None, Result, Ok, Err, ⊤}
 use Rattle.std.specs.Option.{option_map_or}
-use Rattle.serde_json.specs.Data.{Data, null}
-use Rattle.serde_json.specs.Find.{get, as_str, as_array}
+use Rattle.serde_json.specs.Data.{Data}
+use Rattle.serde_json.specs.Find.{get, as_str}
 use Rattle.json_shape.specs.declared.error.ShapeError.{ShapeError}
 use Rattle.json_shape.specs.Shapes as shape
-use Rattle.json_shape.specs.Shapes.{listed}
-use Rattle.key_table.specs.Answers.{◌>>=◌}
+use Rattle.json_shape.specs.Shapes.{unless_null}
+use Rattle.key_table.specs.Answers.{◌>>=◌, or_fault, provided}
 use Rattle.json_program.specs.declared.error.Unbuilt.{Unbuilt}
 
 abbrev pub unbuilt : Unbuilt
 unbuilt = record {}
 
--- what is there, or else the fault
-abbrev pub there : {A : Type 0} → Option A → Result A Unbuilt
-there None = Err unbuilt
-there (Some x) = Ok x
-
+-- what is read, or Unbuilt where there is a fault
 abbrev pub or_unbuilt : {A : Type 0} → Result A ShapeError → Result A Unbuilt
 or_unbuilt (Ok x) = Ok x
 or_unbuilt (Err e) = Err unbuilt
@@ -27,12 +23,7 @@ json_of bytes = or_unbuilt (shape.json_of bytes)
 
 -- the field with a name
 abbrev pub field_of : List ℕ → Data → Result Data Unbuilt
-field_of name d = there (get name d)
-
-abbrev pub unless_null : Option Data → Option Data
-unless_null None = None
-unless_null (Some null) = None
-unless_null (Some d) = Some d
+field_of name d = or_fault unbuilt (get name d)
 
 -- the field with a name, unless it is missing or null
 abbrev pub optional_of : List ℕ → Data → Option Data
@@ -42,24 +33,17 @@ optional_of name d = unless_null (get name d)
 abbrev pub is_string : List ℕ → Data → Bool
 is_string wanted d = option_map_or (λ s. bytes_eq s wanted) (as_str d) false
 
-abbrev pub provided : Bool → Result ⊤ Unbuilt
-provided true = Ok tt
-provided false = Err unbuilt
-
 -- that the field with a name is this string
 abbrev pub string_of : List ℕ → List ℕ → Data → Result ⊤ Unbuilt
-string_of name wanted d = field_of name d >>= λ s. provided (is_string wanted s)
+string_of name wanted d = field_of name d >>= λ s. provided unbuilt (is_string wanted s)
 
-abbrev pub within : {A : Type 0} → ℕ → List A → Result (List A) Unbuilt
-within most xs = if nat_le (length xs) most then Ok xs else Err unbuilt
-
--- a string of at most so many bytes
-abbrev pub text_of : ℕ → Data → Result (List ℕ) Unbuilt
-text_of most d = there (as_str d) >>= within most
+-- a string of at most 255 bytes
+abbrev pub short_text_of : Data → Result (List ℕ) Unbuilt
+short_text_of d = or_unbuilt (shape.short_text_of [] 255 d)
 
 -- an array of at most so many items
 abbrev pub list_of : ℕ → Data → Result (List Data) Unbuilt
-list_of most d = there (as_array d) >>= λ ds. within most (listed ds)
+list_of most d = or_unbuilt (shape.list_of [] most d)
 
 abbrev pub the_optional : {X : Type 0} → (Data → Result X Unbuilt) → Option Data → Result (Option X) Unbuilt
 the_optional read None = Ok None

@@ -1,6 +1,7 @@
 -- Statements and comparisons in JSON. Plain ones are not nested, and compare with one variant by `equal`.
-use Rattle.std.specs.Prelude.{ℕ, List, codes, is_none, Option, None, Result, Ok}
+use Rattle.std.specs.Prelude.{ℕ, List, codes, is_none, None, Result, Ok}
 use Rattle.key_table.specs.Answers as answers
+use Rattle.key_table.specs.Answers.{provided}
 use Rattle.key_table.specs.declared.atom.Op.TheVariants.{Equal}
 use Rattle.serde_json.specs.Data.{Data}
 use Rattle.euclid_ast.specs.declared.statement.ValueForm.{ValueForm}
@@ -8,12 +9,12 @@ use Rattle.euclid_ast.specs.declared.statement.ValueForm.TheVariants.{Variant}
 use Rattle.euclid_ast.specs.declared.statement.Comparison.{Comparison}
 use Rattle.euclid_ast.specs.declared.statement.Statement.{Statement, roll-Statement}
 use Rattle.json_program.specs.declared.error.Unbuilt.{Unbuilt}
-use Rattle.json_program.specs.Shapes.{field_of, optional_of, string_of, text_of, list_of, provided}
+use Rattle.json_program.specs.Shapes.{field_of, optional_of, string_of, short_text_of, list_of, unbuilt}
 use Rattle.json_program.specs.Counted.{Reading, ◌>>=◌, pure, plain, statement_begun, comparison_begun, each}
 
 -- the text of a field, of at most 255 bytes
 abbrev pub name_of : List ℕ → Data → Result (List ℕ) Unbuilt
-name_of field d = answers.◌>>=◌ (field_of field d) (text_of 255)
+name_of field d = answers.◌>>=◌ (field_of field d) short_text_of
 
 abbrev pub variant_of : Data → Result ValueForm Unbuilt
 variant_of d = answers.◌>>=◌ (string_of (codes "type") (codes "enum_variant") d) (λ _. answers.◌>>=◌ (name_of (codes "value") d) (λ name. Ok (Variant name)))
@@ -33,5 +34,5 @@ statement_of d = do
   node ← plain (field_of (codes "condition") d)
   nodes ← plain (list_of 16384 node)
   condition ← each comparison_of nodes
-  _ ← plain (provided (is_none (optional_of (codes "nested") d)))
+  _ ← plain (provided unbuilt (is_none (optional_of (codes "nested") d)))
   pure (roll-Statement (record { condition = condition; nested = None }))

@@ -3,9 +3,8 @@ ghost use Rattle.key_table.specs.Answers.{Answers};
 ghost use Rattle.json_program.specs.Counted.{statement_begun, comparison_begun};
 
 use crate::error::Unbuilt;
+use crate::limits::{MOST_COMPARISONS, MOST_STATEMENTS};
 use key_table::Stop;
-
-const MOST: u32 = 16_384;
 
 /// How many statements and how many comparisons of the program were begun.
 #[derive(Clone, Copy, Debug, PartialEq, Eq)]
@@ -20,7 +19,7 @@ impl Counts {
     pub(crate) fn begin_statement(&mut self) -> Result<(), Stop<Unbuilt>>
         ensures { Answers (λ u. (u, self.new)) result (statement_begun self.old) }
     {
-        if self.statements >= MOST {
+        if self.statements >= MOST_STATEMENTS {
             return Err(Stop::Fault(Unbuilt));
         }
         self.statements += 1;
@@ -32,7 +31,7 @@ impl Counts {
     pub(crate) fn begin_comparison(&mut self) -> Result<(), Stop<Unbuilt>>
         ensures { Answers (λ u. (u, self.new)) result (comparison_begun self.old) }
     {
-        if self.comparisons >= MOST {
+        if self.comparisons >= MOST_COMPARISONS {
             return Err(Stop::Fault(Unbuilt));
         }
         self.comparisons += 1;

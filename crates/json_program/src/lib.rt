@@ -3,6 +3,7 @@
 
 mod counts;
 mod error;
+mod limits;
 mod program;
 mod reading;
 mod selection;

@@ -6,19 +6,14 @@ ghost use Rattle.json_program.specs.Programs.{bare, rule_of, program_of};
 
 use crate::counts::Counts;
 use crate::error::Unbuilt;
+use crate::limits::{MOST_RULES, MOST_STATEMENTS};
 use crate::selection::selection;
-use crate::shape::{field, list_up_to, text_up_to};
+use crate::shape::{field, list_up_to, short_text};
 use crate::statement::statements;
 use euclid_ast::{Program, Rule};
 use key_table::{Seq, Stop};
 use serde_json::Value;
 use std::alloc::Global;
-
-const MOST_BYTES: usize = 255;
-
-const MOST_RULES: usize = 256;
-
-const MOST_STATEMENTS: usize = 16_384;
 
 /// A program at the root of the file.
 #[tactic(auto, unfolding(crate::specs::Programs::program_of))]
@@ -65,9 +60,9 @@ fn rules(alloc: Global, nodes: &[Value], counts: &mut Counts) -> Result<Seq<Rule
 fn rule(alloc: Global, node: &Value, counts: &mut Counts) -> Result<Rule, Stop<Unbuilt>>
     ensures { Answers (λ r. (r, counts.new)) result (rule_of (view node.now) counts.old) }
 {
-    let name = text_up_to(alloc, field(node, "name")?, MOST_BYTES)?;
+    let name = short_text(alloc, field(node, "name")?)?;
     let selection = selection(alloc, field(node, "connectorSelection")?)?;
-    let nodes = list_up_to(field(node, "statements")?, MOST_STATEMENTS)?;
+    let nodes = list_up_to(field(node, "statements")?, MOST_STATEMENTS as usize)?;
     let statements = statements(alloc, nodes, counts)?;
     Ok(Rule {
         name,

@@ -5,22 +5,19 @@ ghost use Rattle.json_program.specs.Selections.{account_of, selection_of};
 ghost use Rattle.json_program.specs.Shapes.{each};
 
 use crate::error::Unbuilt;
-use crate::shape::{field, list_up_to, optional, string, text_up_to};
+use crate::limits::MOST_ACCOUNTS;
+use crate::shape::{field, list_up_to, optional, short_text, string};
 use euclid_ast::{Account, Selection};
 use key_table::{Seq, Stop};
 use serde_json::Value;
 use std::alloc::Global;
-
-const MOST_BYTES: usize = 255;
-
-const MOST_ITEMS: usize = 4_096;
 
 /// A selection, which is a priority list.
 pub(crate) fn selection(alloc: Global, node: &Value) -> Result<Selection, Stop<Unbuilt>>
     ensures { Answers (λ s. s) result (selection_of (view node.now)) }
 {
     string(node, "type", "priority")?;
-    let nodes = list_up_to(field(node, "data")?, MOST_ITEMS)?;
+    let nodes = list_up_to(field(node, "data")?, MOST_ACCOUNTS)?;
     Ok(Selection::Priority(accounts(alloc, nodes)?))
 }
 
@@ -38,9 +35,9 @@ fn accounts(alloc: Global, nodes: &[Value]) -> Result<Seq<Account>, Stop<Unbuilt
 fn account(alloc: Global, node: &Value) -> Result<Account, Stop<Unbuilt>>
     ensures { Answers (λ a. a) result (account_of (view node.now)) }
 {
-    let connector = text_up_to(alloc, field(node, "connector")?, MOST_BYTES)?;
+    let connector = short_text(alloc, field(node, "connector")?)?;
     let id = match optional(node, "merchant_connector_id") {
-        Some(id) => Some(text_up_to(alloc, id, MOST_BYTES)?),
+        Some(id) => Some(short_text(alloc, id)?),
         None => None,
     };
     Ok(Account { connector, id })

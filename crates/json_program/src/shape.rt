@@ -1,9 +1,10 @@
 ghost use Rattle.std.specs.Prelude.{◌≡◌, ◌≤◌, map, option_map, length, IfOk};
 ghost use Rattle.serde_json.specs.View.{view};
 ghost use Rattle.key_table.specs.Answers.{Answers};
-ghost use Rattle.json_program.specs.Shapes.{field_of, optional_of, string_of, text_of, list_of};
+ghost use Rattle.json_program.specs.Shapes.{field_of, optional_of, string_of, short_text_of, list_of};
 
 use crate::error::Unbuilt;
+use crate::limits::MOST_BYTES;
 use key_table::{Stop, Text};
 use serde_json::Value;
 use std::alloc::Global;
@@ -39,18 +40,18 @@ pub(crate) fn string(node: &Value, name: &str, wanted: &str) -> Result<(), Stop<
     }
 }
 
-/// A string of at most so many bytes.
-pub(crate) fn text_up_to(alloc: Global, node: &Value, most: usize) -> Result<Text, Stop<Unbuilt>>
-    ensures { Answers (λ t. t) result (text_of most (view node.now)) }
+/// A string of at most 255 bytes.
+pub(crate) fn short_text(alloc: Global, node: &Value) -> Result<Text, Stop<Unbuilt>>
+    ensures { Answers (λ t. t) result (short_text_of (view node.now)) }
 {
     match node.as_str() {
-        Some(text) if text.len() <= most => Ok(Text::from_str(alloc, text)?),
+        Some(text) if text.len() <= MOST_BYTES => Ok(Text::from_str(alloc, text)?),
         _ => Err(Stop::Fault(Unbuilt)),
     }
 }
 
 /// An array of at most so many items.
-#[tactic(auto, using(crate::proofs::Lists::list_of_long, crate::proofs::Lists::list_of_fits))]
+#[tactic(auto, using(json_shape::proofs::Lists::list_of_long, json_shape::proofs::Lists::list_of_fits))]
 pub(crate) fn list_up_to(node: &Value, most: usize) -> Result<&[Value], Stop<Unbuilt>>
     ensures list { Answers (λ vs. map view vs.now) result (list_of most (view node.now)) }
     ensures within { IfOk result (λ vs. length vs.now ≤ most) }

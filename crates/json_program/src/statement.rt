@@ -6,15 +6,12 @@ ghost use Rattle.json_program.specs.Statements.{variant_of, comparison_of, state
 
 use crate::counts::Counts;
 use crate::error::Unbuilt;
-use crate::shape::{field, list_up_to, optional, string, text_up_to};
+use crate::limits::MOST_COMPARISONS;
+use crate::shape::{field, list_up_to, optional, short_text, string};
 use euclid_ast::{Comparison, Statement, ValueForm};
 use key_table::{Op, Seq, Stop};
 use serde_json::Value;
 use std::alloc::Global;
-
-const MOST_BYTES: usize = 255;
-
-const MOST_ITEMS: usize = 16_384;
 
 /// The items of a list of statements.
 pub(crate) fn statements(
@@ -36,7 +33,7 @@ fn statement(alloc: Global, node: &Value, counts: &mut Counts) -> Result<Stateme
     ensures { Answers (λ s. (s, counts.new)) result (statement_of (view node.now) counts.old) }
 {
     counts.begin_statement()?;
-    let nodes = list_up_to(field(node, "condition")?, MOST_ITEMS)?;
+    let nodes = list_up_to(field(node, "condition")?, MOST_COMPARISONS as usize)?;
     let condition = comparisons(alloc, nodes, counts)?;
     match optional(node, "nested") {
         None => Ok(Statement {
@@ -66,7 +63,7 @@ fn comparison(alloc: Global, node: &Value, counts: &mut Counts) -> Result<Compar
     ensures { Answers (λ c. (c, counts.new)) result (comparison_of (view node.now) counts.old) }
 {
     counts.begin_comparison()?;
-    let lhs = text_up_to(alloc, field(node, "lhs")?, MOST_BYTES)?;
+    let lhs = short_text(alloc, field(node, "lhs")?)?;
     string(node, "comparison", "equal")?;
     let value = value(alloc, field(node, "value")?)?;
     Ok(Comparison {
@@ -80,6 +77,6 @@ fn value(alloc: Global, node: &Value) -> Result<ValueForm, Stop<Unbuilt>>
     ensures { Answers (λ v. v) result (variant_of (view node.now)) }
 {
     string(node, "type", "enum_variant")?;
-    let name = text_up_to(alloc, field(node, "value")?, MOST_BYTES)?;
+    let name = short_text(alloc, field(node, "value")?)?;
     Ok(ValueForm::Variant(name))
 }

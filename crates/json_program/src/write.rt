@@ -14,8 +14,7 @@ pub fn write_selection(alloc: Global, selection: &Selection) -> Result<Text, NoM
     ensures { IfOk result (λ t. t ≡ compact_text (selection_data selection.now)) }
 {
     let value = selection_value(alloc, selection)?;
-    let text = value.to_string(alloc)?;
-    Text::from_str(alloc, text.as_str())
+    Ok(Text::from(value.to_string(alloc)?))
 }
 
 /// The text as a JSON string.
@@ -23,8 +22,7 @@ pub fn write_string(alloc: Global, text: &Text) -> Result<Text, NoMemory>
     ensures { IfOk result (λ t. t ≡ compact_text (string text.now)) }
 {
     let value = Value::String(String::from_str(alloc, text.as_str())?);
-    let text = value.to_string(alloc)?;
-    Text::from_str(alloc, text.as_str())
+    Ok(Text::from(value.to_string(alloc)?))
 }
 
 fn selection_value(alloc: Global, selection: &Selection) -> Result<Value, AllocError>
