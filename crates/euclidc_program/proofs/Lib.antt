@@ -1,7 +1,10 @@
-pub mod Joined
+pub mod CommandLemmas
+pub mod Completeness
+pub mod DecideLemmas
 pub mod Faults
+pub mod Joined
 pub mod Meetings
+pub mod Names
 pub mod Numbers
 pub mod RunLemmas
-pub mod DecideLemmas
-pub mod Completeness
+pub mod Told

@@ -4,7 +4,8 @@ use Rattle.std.specs.Fmt.{decimal}
 use Rattle.std.specs.Str.Parse.{AllDigits, digits_value, ParsesUnsigned}
 use Rattle.std.specs.Bool.{Decides}
 use Rattle.std.proofs.lemmas.Grind.{common_steps}
-use Rattle.std.proofs.lemmas.Bool.{false≢true, false_from_ne_true, le-leb, leb-true, lt-leb}
+use Rattle.std.proofs.lemmas.Bool.{false≢true, false_from_ne_true, and_parts, and_from, le-leb, leb-true, lt-leb}
+use Rattle.std.proofs.lemmas.Bool.Decides.{same_from_decides}
 use Rattle.std.proofs.lemmas.Slice.Eq.{bytes_eq-Decides}
 use Rattle.std.proofs.lemmas.Str.Parse.{IsNumeralModel, numerals_by_value, tells_digits, parse_plain}
 use Rattle.std.proofs.lemmas.Fmt.{decimal-digits_value, parse-decimal, decimal_nonempty, first_decimal, decimal_digit}
@@ -14,24 +15,10 @@ use Rattle.euclidc_program.specs.Unpadded.{is_unpadded}
 own : IsNumeralModel (AllDigits 10) (digits_value 10)
 own = numerals_by_value (AllDigits 10) tells_digits
 
-and-true : (a b : Bool) → (a && b) ≡ true → (a ≡ true) × (b ≡ true)
-and-true true true h = (refl, refl)
-and-true true false h = absurd (false≢true h)
-and-true false b h = absurd (false≢true h)
-
-and-from : (a b : Bool) → a ≡ true → b ≡ true → (a && b) ≡ true
-and-from a b h k = rw (h, k)
-
-same_answers : (a b : Bool) → (a ≡ true → b ≡ true) → (b ≡ true → a ≡ true) → a ≡ b
-same_answers true true f g = refl
-same_answers true false f g = absurd (false≢true (f refl))
-same_answers false true f g = absurd (false≢true (g refl))
-same_answers false false f g = refl
-
 -- a number's word is what is written for the number, which is small enough
 number_says : (most : ℕ) (word : List ℕ) → is_number most word ≡ true → (word ≡ decimal (digits_value 10 word)) × (digits_value 10 word ≤ most)
 number_says most word is =
-    let p = and-true (bytes_eq word (decimal (digits_value 10 word))) (leb (digits_value 10 word) most) is in
+    let p = and_parts (bytes_eq word (decimal (digits_value 10 word))) (leb (digits_value 10 word) most) is in
     ((bytes_eq-Decides word (decimal (digits_value 10 word))).0 p.0, leb-true _ _ p.1)
 
 unpadded-first : (ds : List ℕ) → 0 < length ds → 48 < get_or ds 0 0 → is_unpadded ds ≡ true
@@ -52,11 +39,10 @@ fits64 n most le lt = omega arith
 abbrev Parsed : List ℕ → Result ℕ ℕ → Type 0
 Parsed word r = ParsesUnsigned {E = ℕ} 32 10 word r
 
-pub number-ok : (most : ℕ) (word : List ℕ) (n : ℕ) → most < 2 ^ 32 → Parsed word (Ok n) → (leb n most && is_unpadded word) ≡ is_number most word
-number-ok most word n small parsed = same_answers _ _
-    (λ both.
+number-said : (most : ℕ) (word : List ℕ) (n : ℕ) → Parsed word (Ok n) → (leb n most && is_unpadded word) ≡ true → is_number most word ≡ true
+number-said most word n parsed both =
     let r : Result ℕ ℕ = Ok n in
-    let p = and-true (leb n most) (is_unpadded word) both in
+    let p = and_parts (leb n most) (is_unpadded word) both in
     let first = first-unpadded word p.1 in
     let says = parse_plain own 32 word r parsed first.0 in
     let below : digits_value 10 word < 2 ^ 32 = says.0.2 in
@@ -64,8 +50,10 @@ number-ok most word n small parsed = same_answers _ _
     let le : n ≤ most = leb-true _ _ p.0 in
     let same : n ≡ digits_value 10 word = says.1 in
     let within : digits_value 10 word ≤ most = omega (arith, le, same) in
-    and-from _ _ ((bytes_eq-Decides word (decimal (digits_value 10 word))).1 (sym (decimal-digits_value own word says.0.0 says.0.1 first.1 low))) (le-leb _ _ within))
-    (λ is.
+    and_from _ _ ((bytes_eq-Decides word (decimal (digits_value 10 word))).1 (sym (decimal-digits_value own word says.0.0 says.0.1 first.1 low))) (le-leb _ _ within)
+
+said-number : (most : ℕ) (word : List ℕ) (n : ℕ) → most < 2 ^ 32 → Parsed word (Ok n) → is_number most word ≡ true → (leb n most && is_unpadded word) ≡ true
+said-number most word n small parsed is =
     let r : Result ℕ ℕ = Ok n in
     let p = number_says most word is in
     let le : digits_value 10 word ≤ most = p.1 in
@@ -73,7 +61,11 @@ number-ok most word n small parsed = same_answers _ _
     let e : r ≡ Ok (digits_value 10 word) = parse-decimal 32 (digits_value 10 word) word r below (fits64 _ most le small) p.0 parsed in
     let same : n ≡ digits_value 10 word = cc e in
     let within : n ≤ most = omega (arith, same, le) in
-    and-from _ _ (le-leb _ _ within) (subst (λ (w : List ℕ). is_unpadded w ≡ true) (sym p.0) (unpadded-decimal (digits_value 10 word) (fits64 _ most le small))))
+    and_from _ _ (le-leb _ _ within) (subst (λ (w : List ℕ). is_unpadded w ≡ true) (sym p.0) (unpadded-decimal (digits_value 10 word) (fits64 _ most le small)))
+
+pub number-ok : (most : ℕ) (word : List ℕ) (n : ℕ) → most < 2 ^ 32 → Parsed word (Ok n) → (leb n most && is_unpadded word) ≡ is_number most word
+number-ok most word n small parsed =
+    same_from_decides {P = is_number most word ≡ true} _ _ (number-said most word n parsed, said-number most word n small parsed) ((λ h. h), (λ h. h))
 
 pub number-large : (most : ℕ) (word : List ℕ) (n : ℕ) → most < 2 ^ 32 → Parsed word (Ok n) → most < n → leb n most ≡ is_number most word
 number-large most word n small parsed large = sym (rw (lt-leb _ _ large)) ∙ number-ok most word n small parsed

@@ -2,14 +2,9 @@
 use Rattle.std.specs.Prelude.{◌≡◌, ℕ, List, [], ◌∷◌, Option, Some, None, codes, bytes_eq, if◌then◌else◌}
 use Rattle.euclidc_program.specs.Words.{Word, fits, decide_form, is_command}
 use Rattle.shelf_io.specs.Seen.{Name, Files}
-use Rattle.key_table.specs.Tables.{Table}
-use Rattle.euclidc_program.specs.declared.status.Verdict.{Verdict}
 use Rattle.euclidc_program.specs.declared.status.Verdict.TheVariants as verdict
-use Rattle.key_table.specs.Payments.{Entries}
-use Rattle.euclid_ast.specs.declared.program.Program.{Program}
-use Rattle.euclidc_program.specs.Runs.{goes}
 use Rattle.euclidc_program.specs.TableFiles.{TableSource, known, under}
-use Rattle.euclidc_program.specs.Stages.{Among}
+use Rattle.euclidc_program.specs.Stages.{Answering, Among}
 use Rattle.euclidc_program.specs.Decide as decide
 
 pub data Command : Type 0 where
@@ -21,7 +16,7 @@ abbrev pub source_of : Word → TableSource
 source_of word = if bytes_eq word (codes "-") then known else under word
 
 abbrev pub decide_of : List Word → Command
-decide_of (verb ∷ table ∷ p ∷ pay ∷ []) = Decide (source_of table) p pay
+decide_of (verb ∷ table_word ∷ program_name ∷ payment_name ∷ []) = Decide (source_of table_word) program_name payment_name
 decide_of _ = Unbuilt
 
 -- the commands that are built
@@ -37,23 +32,23 @@ abbrev pub usage : List ℕ
 usage = codes "usage: euclidc decide K P PAY | report K P S B | prove K P S T B | check K P S T C | convert P json|text | sample N\n"
 
 -- What a command may answer over some files.
-abbrev pub answers : Command → Files → List ℕ → Verdict → Type 0
-answers (Decide table p pay) files = decide.answers table p pay files
-answers Unbuilt files = λ text v. (text ≡ codes "refused command unbuilt\n") × (v ≡ verdict.Refused)
+abbrev pub MayAnswer : Command → Answering
+MayAnswer (Decide source program_name payment_name) files = decide.MayAnswer source program_name payment_name files
+MayAnswer Unbuilt files = λ text v. (text ≡ codes "refused command unbuilt\n") × (v ≡ verdict.Refused)
 
 -- the names of the files that a command reaches
 abbrev pub asked : Command → Files → List Name
-asked (Decide table p pay) files = decide.asked table p pay files
+asked (Decide source program_name payment_name) files = decide.asked source program_name payment_name files
 asked Unbuilt files = []
 
 -- the names of a command's files
 abbrev pub names : Command → List Name
-names (Decide table p pay) = decide.names table p pay
+names (Decide source program_name payment_name) = decide.names source program_name payment_name
 names Unbuilt = []
 
--- The files of a command are held, within their limits, and good, so that it has a decision.
+-- The files of a command are held, within their limits, and good.
 abbrev pub IsGood : Command → Files → Type 0
-IsGood (Decide table p pay) files = (read : Table × Program × Entries) × ((decide.run table p pay files).end ≡ goes read)
+IsGood (Decide source program_name payment_name) files = decide.IsGood source program_name payment_name files
 IsGood Unbuilt files = ⊥
 
 -- A file that the command reaches is not held.

@@ -5,6 +5,7 @@ pub mod Decisions
 pub mod PaymentFiles
 pub mod ProgramFiles
 pub mod Refusals
+pub mod Roles
 pub mod Runs
 pub mod Stages
 pub mod Statuses

@@ -1,8 +1,11 @@
 -- A command's run over the files: which names it asks for, and how it ends.
 use Rattle.std.specs.Prelude.{ℕ, List, [], ◌∷◌, ◌++◌, Option, Some, None, Result, Ok, Err, length, nat_lt, if◌then◌else◌}
 use Rattle.shelf_io.specs.Seen.{Name, Files}
+use Rattle.euclidc_program.specs.declared.role.Role.{Role}
 use Rattle.euclidc_program.specs.declared.status.Verdict.{Verdict}
 use Rattle.euclidc_program.specs.declared.status.Verdict.TheVariants.{Refused, TooLong}
+use Rattle.euclidc_program.specs.Roles.{limit_of}
+use Rattle.euclidc_program.specs.Refusals.{too_long}
 
 -- A run goes on with a value, or its answer is decided, or a file that it asks for is not held.
 pub data End (A : Type 0) : Type 0 where
@@ -29,19 +32,19 @@ run >>= next = after run.asked run.end next
 abbrev pub ending : {A : Type 0} → End A → Run A
 ending end = record { asked = []; end = end }
 
--- a value, or the text of a refusal
-abbrev pub judged : {A : Type 0} → Result A (List ℕ) → End A
-judged (Ok a) = goes a
-judged (Err text) = ends text Refused
+abbrev pub bytes_of : Role → Option (List ℕ) → End (List ℕ)
+bytes_of role None = lacks
+bytes_of role (Some bytes) = if nat_lt (limit_of role) (length bytes) then ends (too_long role) TooLong else goes bytes
 
-abbrev pub bytes_of : List ℕ → ℕ → Option (List ℕ) → End (List ℕ)
-bytes_of too_long most None = lacks
-bytes_of too_long most (Some bytes) = if nat_lt most (length bytes) then ends too_long TooLong else goes bytes
+-- The bytes of a file, of which there may be as many as its role allows.
+abbrev pub bytes_in : Role → Name → Files → Run (List ℕ)
+bytes_in role name files = record { asked = name ∷ []; end = bytes_of role (files name) }
 
--- The bytes of a file. Where there are more than so many, the answer is the given line.
-abbrev pub file : List ℕ → ℕ → Name → Files → Run (List ℕ)
-file too_long most name files = record { asked = name ∷ []; end = bytes_of too_long most (files name) }
+-- what was read, or the text that refuses its fault
+abbrev pub judged : {A E : Type 0} → (E → List ℕ) → Result A E → End A
+judged refusal (Ok a) = goes a
+judged refusal (Err error) = ends (refusal error) Refused
 
--- the most bytes of a table, a program, a payment or a settings file
-abbrev pub limit : ℕ
-limit = 1048576
+-- What is read from a file, or the text that refuses it.
+abbrev pub file : {A E : Type 0} → Role → (E → List ℕ) → (List ℕ → Result A E) → Name → Files → Run A
+file role refusal read name files = bytes_in role name files >>= λ bytes. ending (judged refusal (read bytes))

@@ -39,20 +39,26 @@ Ending allows (goes a) text v = allows a text v
 Ending allows (ends t w) text v = (text ≡ t) × (v ≡ w)
 Ending allows lacks text v = ⊥
 
--- What a command may answer over some files: a text, and what it says.
-abbrev pub MayAnswer : Type 1
-MayAnswer = Files → List ℕ → Verdict → Type 0
+-- Which answers may be given over some files: a text, and what it says.
+abbrev pub Answering : Type 1
+Answering = Files → List ℕ → Verdict → Type 0
+
+-- The files over which a command's answers are judged, where these are known: those that the shelf tells. A command
+-- that has no files needs none, and what the shelf holds is nothing to it.
+abbrev pub known_files : List Name → Option Files → Option Files
+known_files [] holds = Some (λ name. None)
+known_files (name ∷ names) holds = holds
 
 -- A command stopped: for want of memory, for a fault, or with one of its answers.
-abbrev pub Halts : MayAnswer → (Files → List Name) → List Name → ShelfSeen → ShelfSeen → Halt → Type 0
+abbrev pub Halts : Answering → (Files → List Name) → List Name → ShelfSeen → ShelfSeen → Halt → Type 0
 Halts may asked names old new NoMemory = new ≡ old
-Halts may asked names old new ReadFault = Stays old new × Fault old.holds asked names old new
-Halts may asked names old new (Ends answer) = (new ≡ old) × WhereTold old.holds (λ files. may files answer.text answer.verdict)
+Halts may asked names old new ReadFault = Stays old new × Fault (known_files names old.holds) asked names old new
+Halts may asked names old new (Ends answer) = (new ≡ old) × WhereTold (known_files names old.holds) (λ files. may files answer.text answer.verdict)
 
 -- A command gave one of its answers, or it stopped.
-abbrev pub Answers : MayAnswer → (Files → List Name) → List Name → ShelfSeen → ShelfSeen → Result Answer Halt → Type 0
-Answers may asked names old new (Ok answer) = (new ≡ old) × WhereTold old.holds (λ files. may files answer.text answer.verdict)
-Answers may asked names old new (Err halt) = Halts may asked names old new halt
+abbrev pub Concludes : Answering → (Files → List Name) → List Name → ShelfSeen → ShelfSeen → Result Answer Halt → Type 0
+Concludes may asked names old new (Ok answer) = (new ≡ old) × WhereTold (known_files names old.holds) (λ files. may files answer.text answer.verdict)
+Concludes may asked names old new (Err halt) = Halts may asked names old new halt
 
 -- A halt with this answer, or for want of memory.
 abbrev pub HaltsWith : Halt → List ℕ → Verdict → Type 0

@@ -1,12 +1,13 @@
 -- The file of a key table.
-use Rattle.std.specs.Prelude.{ℕ, List, [], ◌∷◌, Option, Some, None, Result, Ok, Err, codes, decimal}
+use Rattle.std.specs.Prelude.{ℕ, List, [], ◌∷◌, Option, Some, None, codes, decimal}
 use Rattle.shelf_io.specs.Seen.{Name, Files}
 use Rattle.key_table.specs.declared.table.TableError.{TableError}
 use Rattle.key_table.specs.Tables.{Table}
 use Rattle.key_table.specs.BuiltIn.{built_in}
 use Rattle.key_table.specs.TableFiles.{table_of}
+use Rattle.euclidc_program.specs.declared.role.Role.TheVariants as role
 use Rattle.euclidc_program.specs.Refusals.{refusal}
-use Rattle.euclidc_program.specs.Runs.{Run, goes, ◌>>=◌, ending, judged, file, limit}
+use Rattle.euclidc_program.specs.Runs.{Run, goes, ending, file}
 
 -- Where the key table stands: it is built in, or in a file.
 pub data TableSource : Type 0 where
@@ -20,14 +21,10 @@ key_text (Some key) = decimal key
 
 -- the line of a refusal
 abbrev pub table_refusal : TableError → List ℕ
-table_refusal error = refusal (codes "table") error.code (key_text error.key)
-
-abbrev pub or_refused : {A : Type 0} → Result A TableError → Result A (List ℕ)
-or_refused (Ok x) = Ok x
-or_refused (Err error) = Err (table_refusal error)
+table_refusal error = refusal role.Table error.code (key_text error.key)
 
 abbrev pub table_file : Name → Files → Run Table
-table_file name files = file (codes "toolong table\n") limit name files >>= λ bytes. ending (judged (or_refused (table_of bytes)))
+table_file = file role.Table table_refusal table_of
 
 abbrev pub table_in : TableSource → Files → Run Table
 table_in known files = ending (goes built_in)

@@ -8,31 +8,35 @@ use Rattle.euclidc_program.specs.declared.status.Verdict.{Verdict}
 use Rattle.euclidc_program.specs.declared.status.Verdict.TheVariants as verdict
 use Rattle.euclidc_program.specs.declared.status.Status.{Status}
 use Rattle.euclidc_program.specs.declared.status.Status.TheVariants as status
-use Rattle.euclidc_program.specs.Commands.{Command, answers, asked, names, usage, IsGood, IsMissing}
-use Rattle.euclidc_program.specs.Stages.{MayAnswer, Fault, Among, Stays}
+use Rattle.euclidc_program.specs.Commands.{Command, MayAnswer, asked, names, usage, IsGood, IsMissing}
+use Rattle.euclidc_program.specs.Stages.{Answering, Fault, Among, Stays, known_files}
 use Rattle.euclidc_program.specs.Statuses.{status_of}
 
--- Where the shelf tells what it holds, the sink gained the whole of an answer that says this.
-abbrev pub Puts : MayAnswer → ShelfSeen → SinkSeen → SinkSeen → Verdict → Type 0
-Puts may shelf old new v = WhereTold shelf.holds (λ files. (text : List ℕ) × may files text v × (new.written ≡ more old.written text))
+-- Where the files are known, the sink gained the whole of an answer over them that says this.
+abbrev pub WritesWhole : Answering → Option Files → SinkSeen → SinkSeen → Verdict → Type 0
+WritesWhole may known old new v = WhereTold known (λ files. (text : List ℕ) × may files text v × (new.written ≡ more old.written text))
 
--- The sink failed, and where the shelf tells what it holds the sink gained a front of an answer.
-abbrev pub Breaks : MayAnswer → ShelfSeen → SinkSeen → SinkSeen → Type 0
-Breaks may shelf old new = Rose old.faults new.faults
-    × WhereTold shelf.holds (λ files. (text : List ℕ) × (v : Verdict) × may files text v × ((n : ℕ) × (new.written ≡ more old.written (take n text))))
+-- The sink failed, and where the files are known the sink gained a front of an answer over them.
+abbrev pub WritesFront : Answering → Option Files → SinkSeen → SinkSeen → Type 0
+WritesFront may known old new = Rose old.faults new.faults
+    × WhereTold known (λ files. (text : List ℕ) × (v : Verdict) × may files text v × ((n : ℕ) × (new.written ≡ more old.written (take n text))))
+
+-- the files over which a command's answers are judged, where these are known
+abbrev pub known_to : Command → ShelfSeen → Option Files
+known_to command shelf = known_files (names command) shelf.holds
 
 -- What each status of a command means, over every shelf and sink.
 abbrev pub Does : Command → ShelfSeen → ShelfSeen → SinkSeen → SinkSeen → Status → Type 0
-Does command shelf shelf' sink sink' status.Done = Puts (answers command) shelf sink sink' verdict.Done
-Does command shelf shelf' sink sink' status.No = Puts (answers command) shelf sink sink' verdict.No
+Does command shelf shelf' sink sink' status.Done = WritesWhole (MayAnswer command) (known_to command shelf) sink sink' verdict.Done
+Does command shelf shelf' sink sink' status.No = WritesWhole (MayAnswer command) (known_to command shelf) sink sink' verdict.No
 Does command shelf shelf' sink sink' status.Usage = ⊥
-Does command shelf shelf' sink sink' status.Refused = Puts (answers command) shelf sink sink' verdict.Refused
-Does command shelf shelf' sink sink' status.TooLong = Puts (answers command) shelf sink sink' verdict.TooLong
-Does command shelf shelf' sink sink' status.ReadFault = (sink' ≡ sink) × Fault shelf.holds (asked command) (names command) shelf shelf'
-Does command shelf shelf' sink sink' status.WriteFault = Breaks (answers command) shelf sink sink'
+Does command shelf shelf' sink sink' status.Refused = WritesWhole (MayAnswer command) (known_to command shelf) sink sink' verdict.Refused
+Does command shelf shelf' sink sink' status.TooLong = WritesWhole (MayAnswer command) (known_to command shelf) sink sink' verdict.TooLong
+Does command shelf shelf' sink sink' status.ReadFault = (sink' ≡ sink) × Fault (known_to command shelf) (asked command) (names command) shelf shelf'
+Does command shelf shelf' sink sink' status.WriteFault = WritesFront (MayAnswer command) (known_to command shelf) sink sink'
 Does command shelf shelf' sink sink' status.NoMemory = (shelf' ≡ shelf) × (sink' ≡ sink)
 
--- What each status means where the words are no command: the usage line, unless the sink fails. No file is read.
+-- What each status means where the words are no command: the usage line, unless the sink fails.
 abbrev pub Explains : ShelfSeen → ShelfSeen → SinkSeen → SinkSeen → Status → Type 0
 Explains shelf shelf' sink sink' status.Usage = (shelf' ≡ shelf) × (sink'.written ≡ more sink.written usage)
 Explains shelf shelf' sink sink' status.WriteFault = (shelf' ≡ shelf) × Rose sink.faults sink'.faults × ((n : ℕ) × (sink'.written ≡ more sink.written (take n usage)))
@@ -46,6 +50,16 @@ Meets (Some command) shelf shelf' sink sink' s = Does command shelf shelf' sink 
 abbrev pub Keeps : ShelfSeen → ShelfSeen → SinkSeen → SinkSeen → Type 0
 Keeps shelf shelf' sink sink' = Stays shelf shelf' × (sink.faults ≤ sink'.faults)
 
+-- The command has a file.
+abbrev pub HasFile : Option Command → Type 0
+HasFile None = ⊥
+HasFile (Some command) = (name : Name) × Among name (names command)
+
+-- The shelf is as it was, but for a read fault, which only a command with a file has. So no file is read for other words.
+abbrev pub LeavesShelf : Option Command → ShelfSeen → ShelfSeen → Status → Type 0
+LeavesShelf command shelf shelf' status.ReadFault = HasFile command
+LeavesShelf command shelf shelf' _ = shelf' ≡ shelf
+
 -- The shelf failed in this call on no file of the command, and the sink did not fail.
 abbrev pub IsCalm : Command → ShelfSeen → ShelfSeen → SinkSeen → SinkSeen → Type 0
 IsCalm command shelf shelf' sink sink' = ((name : Name) → Among name (names command) → FailedOn name shelf shelf' → ⊥) × (Rose sink.faults sink'.faults → ⊥)
@@ -53,12 +67,12 @@ IsCalm command shelf shelf' sink sink' = ((name : Name) → Among name (names co
 -- Where the files are good and nothing failed, the status is Done or NoMemory.
 abbrev pub Completes : Option Command → ShelfSeen → ShelfSeen → SinkSeen → SinkSeen → Status → Type 0
 Completes None shelf shelf' sink sink' s = Unit {0}
-Completes (Some command) shelf shelf' sink sink' s = WhereTold shelf.holds (λ files. IsGood command files → IsCalm command shelf shelf' sink sink' → (s ≡ status.Done) ⊎ (s ≡ status.NoMemory))
+Completes (Some command) shelf shelf' sink sink' s = WhereTold (known_to command shelf) (λ files. IsGood command files → IsCalm command shelf shelf' sink sink' → (s ≡ status.Done) ⊎ (s ≡ status.NoMemory))
 
 -- Where a file that is reached is not held, the status is ReadFault or NoMemory, whatever else there is.
 abbrev pub Misses : Option Command → ShelfSeen → Status → Type 0
 Misses None shelf s = Unit {0}
-Misses (Some command) shelf s = WhereTold shelf.holds (λ files. IsMissing command files → (s ≡ status.ReadFault) ⊎ (s ≡ status.NoMemory))
+Misses (Some command) shelf s = WhereTold (known_to command shelf) (λ files. IsMissing command files → (s ≡ status.ReadFault) ⊎ (s ≡ status.NoMemory))
 
 -- One put of an answer: all of it, or a front of it and a fault.
 abbrev pub PutGives : Answer → SinkSeen → SinkSeen → Status → Type 0

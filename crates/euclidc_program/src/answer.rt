@@ -1,9 +1,9 @@
-ghost use Rattle.std.specs.Prelude.{◌≡◌};
+ghost use Rattle.std.specs.Prelude.{◌≡◌, ℕ, List, IfOk};
 ghost use Rattle.euclidc_program.specs.Stages.{HaltsWith};
 
 use crate::status::Verdict;
 use key_table::{NoMemory, Text};
-use std::alloc::{AllocError, Global};
+use std::alloc::AllocError;
 
 /// The text that is put, and what it says.
 #[derive(Debug, Drop)]
@@ -21,13 +21,13 @@ pub enum Halt {
 }
 
 impl Halt {
-    /// The answer is decided.
-    pub fn with(alloc: Global, text: &str, verdict: Verdict) -> Halt
-        ensures { HaltsWith result text.now verdict }
+    /// The answer is decided: it has this text, for which there may have been no memory.
+    pub fn with(text: Result<Text, NoMemory>, verdict: Verdict) -> Halt
+        ensures { (wanted : List ℕ) → IfOk text (λ t. t ≡ wanted) → HaltsWith result wanted verdict }
     {
-        match Text::from_str(alloc, text) {
+        match text {
             Ok(text) => Halt::Ends(Answer { text, verdict }),
-            Err(_) => Halt::NoMemory,
+            Err(NoMemory) => Halt::NoMemory,
         }
     }
 }

@@ -29,7 +29,7 @@ fn rule_decision(alloc: Global, number: u32, rule: &Rule) -> Result<Text, NoMemo
     let selection = write_selection(alloc, &rule.selection)?;
     let selection = selection.as_str();
     let text = format!(in alloc; "rule {number} {name}\n{selection}\n")?;
-    Text::from_str(alloc, text.as_str())
+    Ok(Text::from(text))
 }
 
 fn default_decision(alloc: Global, selection: &Selection) -> Result<Text, NoMemory>
@@ -38,5 +38,5 @@ fn default_decision(alloc: Global, selection: &Selection) -> Result<Text, NoMemo
     let selection = write_selection(alloc, selection)?;
     let selection = selection.as_str();
     let text = format!(in alloc; "default\n{selection}\n")?;
-    Text::from_str(alloc, text.as_str())
+    Ok(Text::from(text))
 }

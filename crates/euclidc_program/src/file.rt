@@ -1,29 +1,26 @@
-ghost use Rattle.std.specs.Prelude.{ℕ, ◌<◌, ◌^◌, [], ◌∷◌, Vec};
+ghost use Rattle.std.specs.Prelude.{ℕ, [], ◌∷◌, Vec};
 ghost use Rattle.std.specs.declared.alloc.Global.{Global};
-ghost use Rattle.euclidc_program.specs.Runs.{file};
+ghost use Rattle.euclidc_program.specs.Runs.{bytes_in};
 ghost use Rattle.euclidc_program.specs.Stages.{Gives};
 
 use crate::answer::Halt;
-use crate::status::Verdict;
+use crate::refusal::too_long;
+use crate::role::Role;
 use shelf_io::{ReadError, Shelf};
 use std::alloc::Global;
 
-/// The most bytes of a table, a program, a payment or a settings file.
-pub const LIMIT: usize = 1_048_576;
-
-/// The bytes of a file, of which there may be so many. Where there are more, the answer is the given line.
+/// The bytes of a file, of which there may be as many as its role allows.
 pub fn read_file<F: Shelf>(
     alloc: Global,
     shelf: &mut F,
     name: &str,
-    most: usize,
-    too_long: &str,
+    role: Role,
 ) -> Result<Vec<u8>, Halt>
-    requires { most < 2 ^ 32 }
-    ensures { Gives (λ (v : Vec ℕ Global). v.items) (file too_long.now most name.now) (name.now ∷ []) (F.seen shelf.old) (F.seen shelf.new) result }
+    ensures { Gives (λ (v : Vec ℕ Global). v.items) (bytes_in role name.now) (name.now ∷ []) (F.seen shelf.old) (F.seen shelf.new) result }
 {
-    match shelf.read_up_to(alloc, name, most + 1) {
-        Ok(bytes) if bytes.len() > most => Err(Halt::with(alloc, too_long, Verdict::TooLong)),
+    let limit = role.limit();
+    match shelf.read_up_to(alloc, name, limit + 1) {
+        Ok(bytes) if bytes.len() > limit => Err(too_long(alloc, role)),
         Ok(bytes) => Ok(bytes),
         Err(ReadError::NoMemory) => Err(Halt::NoMemory),
         Err(ReadError::Failed) => Err(Halt::ReadFault),

@@ -9,6 +9,8 @@ mod file;
 mod payment_file;
 mod program_file;
 mod refusal;
+mod role;
+mod run;
 mod status;
 mod table_file;
 #[cfg(test)]
@@ -16,12 +18,12 @@ mod tests;
 mod top;
 mod words;
 
+use run::run;
 use shelf_io::{DirShelf, StdSink};
 use status::Status;
 use std::env;
 use std::io::ErrorKind;
 use std::process::ExitCode;
-use top::euclidc;
 
 // The status where a word of the system is not text.
 const WORDS_NOT_TEXT: u8 = 8;
@@ -43,6 +45,5 @@ fn main(rt: HostRuntime) -> ExitCode {
     }
     let mut shelf = DirShelf::new(&rt);
     let mut out = StdSink::new(&rt);
-    let status = euclidc(rt.alloc(), &words, &mut shelf, &mut out);
-    ExitCode::from(status.number())
+    run(rt.alloc(), &words, &mut shelf, &mut out)
 }

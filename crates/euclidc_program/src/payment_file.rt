@@ -4,8 +4,9 @@ ghost use Rattle.euclidc_program.specs.PaymentFiles.{payment_refusal, payment_fi
 ghost use Rattle.euclidc_program.specs.Stages.{Gives, HaltsWith};
 
 use crate::answer::Halt;
-use crate::file::{LIMIT, read_file};
+use crate::file::read_file;
 use crate::refusal::refused;
+use crate::role::Role;
 use json_program::write_string;
 use key_table::{KeyTable, NoMemory, Payment, Stop};
 use payment_reader::PaymentError;
@@ -21,7 +22,7 @@ pub fn read_payment<F: Shelf>(
 ) -> Result<Payment, Halt>
     ensures { Gives (λ p. p) (payment_file table.now name.now) (name.now ∷ []) (F.seen shelf.old) (F.seen shelf.new) result }
 {
-    let bytes = read_file(alloc, shelf, name, LIMIT, "toolong payment\n")?;
+    let bytes = read_file(alloc, shelf, name, Role::Payment)?;
     match payment_reader::read_payment(alloc, table, &bytes) {
         Ok(payment) => Ok(payment),
         Err(Stop::Memory) => Err(Halt::NoMemory),
@@ -34,7 +35,7 @@ fn refused_payment(alloc: Global, error: &PaymentError) -> Halt
     ensures { HaltsWith result (payment_refusal error.now) Refused }
 {
     match write_string(alloc, &error.path) {
-        Ok(path) => refused(alloc, "payment", error.code, path.as_str()),
+        Ok(path) => refused(alloc, Role::Payment, error.code, path.as_str()),
         Err(NoMemory) => Halt::NoMemory,
     }
 }

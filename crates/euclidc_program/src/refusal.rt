@@ -1,29 +1,40 @@
 ghost use Rattle.std.specs.Prelude.{◌≡◌, IfOk};
-ghost use Rattle.euclidc_program.specs.declared.status.Verdict.TheVariants.{Refused};
-ghost use Rattle.euclidc_program.specs.Refusals.{refusal};
+ghost use Rattle.euclidc_program.specs.declared.status.Verdict.TheVariants.{Refused, TooLong};
+ghost use Rattle.euclidc_program.specs.Refusals.{refusal, too_long};
 ghost use Rattle.euclidc_program.specs.Stages.{HaltsWith};
 
-use crate::answer::{Answer, Halt};
+use crate::answer::Halt;
+use crate::role::Role;
 use crate::status::Verdict;
 use key_table::{NoMemory, Text};
 use std::alloc::Global;
 
-/// The answer that refuses a file: one line with what is refused, the code of its fault and the place.
-pub fn refused(alloc: Global, what: &str, code: u8, place: &str) -> Halt
-    ensures { HaltsWith result (refusal what.now code place.now) Refused }
+/// The answer that refuses a file: one line with the file's role, the code of its fault and the place.
+pub fn refused(alloc: Global, role: Role, code: u8, place: &str) -> Halt
+    ensures { HaltsWith result (refusal role code place.now) Refused }
 {
-    match line(alloc, what, code, place) {
-        Ok(text) => Halt::Ends(Answer {
-            text,
-            verdict: Verdict::Refused,
-        }),
-        Err(NoMemory) => Halt::NoMemory,
-    }
+    Halt::with(refused_line(alloc, role, code, place), Verdict::Refused)
 }
 
-fn line(alloc: Global, what: &str, code: u8, place: &str) -> Result<Text, NoMemory>
-    ensures { IfOk result (λ t. t ≡ refusal what.now code place.now) }
+/// The answer where a file is longer than its limit: one line with the file's role.
+pub fn too_long(alloc: Global, role: Role) -> Halt
+    ensures { HaltsWith result (too_long role) TooLong }
 {
-    let text = format!(in alloc; "refused {what} {code} {place}\n")?;
-    Text::from_str(alloc, text.as_str())
+    Halt::with(too_long_line(alloc, role), Verdict::TooLong)
+}
+
+fn refused_line(alloc: Global, role: Role, code: u8, place: &str) -> Result<Text, NoMemory>
+    ensures { IfOk result (λ t. t ≡ refusal role code place.now) }
+{
+    let word = role.word();
+    let text = format!(in alloc; "refused {word} {code} {place}\n")?;
+    Ok(Text::from(text))
+}
+
+fn too_long_line(alloc: Global, role: Role) -> Result<Text, NoMemory>
+    ensures { IfOk result (λ t. t ≡ too_long role) }
+{
+    let word = role.word();
+    let text = format!(in alloc; "toolong {word}\n")?;
+    Ok(Text::from(text))
 }

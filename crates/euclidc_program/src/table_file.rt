@@ -6,8 +6,9 @@ ghost use Rattle.euclidc_program.specs.Stages.{Gives, HaltsWith};
 
 use crate::answer::Halt;
 use crate::command::TableSource;
-use crate::file::{LIMIT, read_file};
+use crate::file::read_file;
 use crate::refusal::refused;
+use crate::role::Role;
 use key_table::{KeyTable, Stop, TableError};
 use shelf_io::Shelf;
 use std::alloc::{AllocError, Global};
@@ -30,7 +31,7 @@ pub fn read_table<F: Shelf>(
 fn read_table_file<F: Shelf>(alloc: Global, shelf: &mut F, name: &str) -> Result<KeyTable, Halt>
     ensures { Gives (λ t. t) (table_file name.now) (name.now ∷ []) (F.seen shelf.old) (F.seen shelf.new) result }
 {
-    let bytes = read_file(alloc, shelf, name, LIMIT, "toolong table\n")?;
+    let bytes = read_file(alloc, shelf, name, Role::Table)?;
     match KeyTable::from_toml(alloc, &bytes) {
         Ok(table) => Ok(table),
         Err(Stop::Memory) => Err(Halt::NoMemory),
@@ -42,7 +43,7 @@ fn refused_table(alloc: Global, error: TableError) -> Halt
     ensures { HaltsWith result (table_refusal error) Refused }
 {
     match key_text(alloc, error.key) {
-        Ok(key) => refused(alloc, "table", error.code, key.as_str()),
+        Ok(key) => refused(alloc, Role::Table, error.code, key.as_str()),
         Err(_) => Halt::NoMemory,
     }
 }

@@ -1,15 +1,16 @@
-ghost use Rattle.std.specs.Prelude.{◌≡◌, map, String, string_bytes};
-ghost use Rattle.std.specs.declared.alloc.Global.{Global};
-ghost use Rattle.euclidc_program.specs.Commands.{command_of, answers, asked, names};
-ghost use Rattle.euclidc_program.specs.CommandViews.{command_view};
-ghost use Rattle.euclidc_program.specs.Stages.{Answers};
-ghost use Rattle.euclidc_program.specs.Top.{Finishes, PutGives, Meets, Keeps, Completes, Misses};
+ghost use Rattle.std.specs.Prelude.{codes};
+ghost use Rattle.euclidc_program.specs.declared.status.Verdict.TheVariants.{Refused};
+ghost use Rattle.euclidc_program.specs.Commands.{MayAnswer, asked, names};
+ghost use Rattle.euclidc_program.specs.CommandViews.{command_in, command_view};
+ghost use Rattle.euclidc_program.specs.Stages.{Concludes, HaltsWith};
+ghost use Rattle.euclidc_program.specs.Top.{Finishes, PutGives, Meets, Keeps, LeavesShelf, Completes, Misses};
 
 use crate::answer::{Answer, Halt};
 use crate::command::Command;
-use crate::decide::decide;
+use crate::decide::run_decide;
 use crate::status::{Status, Verdict};
 use crate::words::command;
+use key_table::Text;
 use shelf_io::{Shelf, Sink};
 use std::alloc::Global;
 
@@ -25,17 +26,15 @@ pub fn euclidc<F: Shelf, K: Sink>(
     out: &mut K,
 ) -> Status
     // What the status means.
-    ensures means { let command = command_of (map (λ (w : String Global). string_bytes w) words.now) in
-        Meets command (F.seen shelf.old) (F.seen shelf.new) (K.seen out.old) (K.seen out.new) result }
+    ensures means { Meets (command_in words.now) (F.seen shelf.old) (F.seen shelf.new) (K.seen out.old) (K.seen out.new) result }
 
     // What stays.
     ensures keeps { Keeps (F.seen shelf.old) (F.seen shelf.new) (K.seen out.old) (K.seen out.new) }
+    ensures still { LeavesShelf (command_in words.now) (F.seen shelf.old) (F.seen shelf.new) result }
 
     // When it succeeds, and what a missing file gives.
-    ensures completes { let command = command_of (map (λ (w : String Global). string_bytes w) words.now) in
-        Completes command (F.seen shelf.old) (F.seen shelf.new) (K.seen out.old) (K.seen out.new) result }
-    ensures misses { let command = command_of (map (λ (w : String Global). string_bytes w) words.now) in
-        Misses command (F.seen shelf.old) result }
+    ensures completes { Completes (command_in words.now) (F.seen shelf.old) (F.seen shelf.new) (K.seen out.old) (K.seen out.new) result }
+    ensures misses { Misses (command_in words.now) (F.seen shelf.old) result }
 {
     let Some(command) = command(words) else {
         return match out.put(USAGE) {
@@ -49,12 +48,22 @@ pub fn euclidc<F: Shelf, K: Sink>(
 
 // Runs a command up to its answer.
 fn outcome<F: Shelf>(alloc: Global, shelf: &mut F, command: Command<'_>) -> Result<Answer, Halt>
-    ensures { Answers (answers (command_view command.entry)) (asked (command_view command.entry)) (names (command_view command.entry)) (F.seen shelf.old) (F.seen shelf.new) result }
+    ensures { let command = command_view command.entry in
+        Concludes (MayAnswer command) (asked command) (names command) (F.seen shelf.old) (F.seen shelf.new) result }
 {
     match command {
-        Command::Decide(table, program, payment) => decide(alloc, shelf, table, program, payment),
-        Command::Unbuilt => Err(Halt::with(alloc, "refused command unbuilt\n", Verdict::Refused)),
+        Command::Decide(source, program_name, payment_name) => {
+            run_decide(alloc, shelf, source, program_name, payment_name)
+        }
+        Command::Unbuilt => Err(unbuilt_command(alloc)),
     }
+}
+
+fn unbuilt_command(alloc: Global) -> Halt
+    ensures { HaltsWith result (codes "refused command unbuilt\n") Refused }
+{
+    let text = Text::from_str(alloc, "refused command unbuilt\n");
+    Halt::with(text, Verdict::Refused)
 }
 
 // Puts the answer, where there is one.

@@ -1,7 +1,6 @@
-ghost use Rattle.std.specs.Prelude.{◌≡◌, ◌||◌, [], ◌∷◌, if◌then◌else◌, Some, None, codes, map, option_map, String, string_bytes};
-ghost use Rattle.std.specs.declared.alloc.Global.{Global};
+ghost use Rattle.std.specs.Prelude.{◌≡◌, ◌||◌, [], ◌∷◌, if◌then◌else◌, Some, None, codes, option_map};
 ghost use Rattle.euclidc_program.specs.Commands.{command_of, source_of, Unbuilt};
-ghost use Rattle.euclidc_program.specs.CommandViews.{command_view, source_view};
+ghost use Rattle.euclidc_program.specs.CommandViews.{command_in, command_view, source_view};
 ghost use Rattle.euclidc_program.specs.Words.{all_accept, report_form, prove_form, check_form, convert_form, sample_form, is_number, is_target};
 ghost use Rattle.euclidc_program.specs.Unpadded.{is_unpadded};
 
@@ -13,45 +12,54 @@ const MOST_RULE: u32 = 255;
 
 /// The words as a command, judged word by word. `None` exactly where they are none.
 pub fn command(words: &[String]) -> Option<Command<'_>>
-    ensures { option_map command_view result ≡ command_of (map (λ (w : String Global). string_bytes w) words.now) }
+    ensures { option_map command_view result ≡ command_in words.now }
 {
     match words {
         [verb, seed] => unbuilt(is_sample(verb, seed)),
-        [verb, program, form] => unbuilt(is_convert(verb, program, form)),
-        [verb, table, program, payment] => decide(verb, table, program, payment),
-        [verb, table, program, settings, budget] => {
-            unbuilt(is_report(verb, table, program, settings, budget))
+        [verb, program_name, form] => unbuilt(is_convert(verb, program_name, form)),
+        [verb, table_word, program_name, payment_name] => decide_command(
+            verb,
+            table_word,
+            program_name,
+            payment_name,
+        ),
+        [verb, table_word, program_name, settings_name, budget] => {
+            unbuilt(is_report(verb, table_word, program_name, settings_name, budget))
         }
-        [verb, table, program, settings, target, last] => unbuilt(
-            is_prove(verb, table, program, settings, target, last)
-                || is_check(verb, table, program, settings, target, last),
+        [verb, table_word, program_name, settings_name, target, last] => unbuilt(
+            is_prove(verb, table_word, program_name, settings_name, target, last)
+                || is_check(verb, table_word, program_name, settings_name, target, last),
         ),
         _ => None,
     }
 }
 
-fn decide<'a>(
+fn decide_command<'a>(
     verb: &'a str,
-    table: &'a str,
-    program: &'a str,
-    payment: &'a str,
+    table_word: &'a str,
+    program_name: &'a str,
+    payment_name: &'a str,
 ) -> Option<Command<'a>>
-    ensures { option_map command_view result ≡ command_of (verb.now ∷ table.now ∷ program.now ∷ payment.now ∷ []) }
+    ensures { option_map command_view result ≡ command_of (verb.now ∷ table_word.now ∷ program_name.now ∷ payment_name.now ∷ []) }
 {
-    if verb != "decide" || table.is_empty() || program.is_empty() || payment.is_empty() {
+    if verb != "decide"
+        || table_word.is_empty()
+        || program_name.is_empty()
+        || payment_name.is_empty()
+    {
         return None;
     }
-    Some(Command::Decide(source(table), program, payment))
+    Some(Command::Decide(source(table_word), program_name, payment_name))
 }
 
 // The built-in table for `-`, else the file with this name.
-fn source(table: &str) -> TableSource<'_>
-    ensures { source_view result ≡ source_of table.now }
+fn source(table_word: &str) -> TableSource<'_>
+    ensures { source_view result ≡ source_of table_word.now }
 {
-    if table == "-" {
+    if table_word == "-" {
         TableSource::BuiltIn
     } else {
-        TableSource::File(table)
+        TableSource::File(table_word)
     }
 }
 
@@ -66,56 +74,62 @@ fn unbuilt(is_command: bool) -> Option<Command<'static>>
     }
 }
 
-fn is_report(verb: &str, table: &str, program: &str, settings: &str, budget: &str) -> bool
-    ensures { result ≡ all_accept report_form (verb.now ∷ table.now ∷ program.now ∷ settings.now ∷ budget.now ∷ []) }
+fn is_report(
+    verb: &str,
+    table_word: &str,
+    program_name: &str,
+    settings_name: &str,
+    budget: &str,
+) -> bool
+    ensures { result ≡ all_accept report_form (verb.now ∷ table_word.now ∷ program_name.now ∷ settings_name.now ∷ budget.now ∷ []) }
 {
     verb == "report"
-        && !table.is_empty()
-        && !program.is_empty()
-        && !settings.is_empty()
+        && !table_word.is_empty()
+        && !program_name.is_empty()
+        && !settings_name.is_empty()
         && is_number(budget, MOST_SPLITS)
 }
 
 fn is_prove(
     verb: &str,
-    table: &str,
-    program: &str,
-    settings: &str,
+    table_word: &str,
+    program_name: &str,
+    settings_name: &str,
     target: &str,
     budget: &str,
 ) -> bool
-    ensures { result ≡ all_accept prove_form (verb.now ∷ table.now ∷ program.now ∷ settings.now ∷ target.now ∷ budget.now ∷ []) }
+    ensures { result ≡ all_accept prove_form (verb.now ∷ table_word.now ∷ program_name.now ∷ settings_name.now ∷ target.now ∷ budget.now ∷ []) }
 {
     verb == "prove"
-        && !table.is_empty()
-        && !program.is_empty()
-        && !settings.is_empty()
+        && !table_word.is_empty()
+        && !program_name.is_empty()
+        && !settings_name.is_empty()
         && is_target(target)
         && is_number(budget, MOST_SPLITS)
 }
 
 fn is_check(
     verb: &str,
-    table: &str,
-    program: &str,
-    settings: &str,
+    table_word: &str,
+    program_name: &str,
+    settings_name: &str,
     target: &str,
-    certificate: &str,
+    certificate_name: &str,
 ) -> bool
-    ensures { result ≡ all_accept check_form (verb.now ∷ table.now ∷ program.now ∷ settings.now ∷ target.now ∷ certificate.now ∷ []) }
+    ensures { result ≡ all_accept check_form (verb.now ∷ table_word.now ∷ program_name.now ∷ settings_name.now ∷ target.now ∷ certificate_name.now ∷ []) }
 {
     verb == "check"
-        && !table.is_empty()
-        && !program.is_empty()
-        && !settings.is_empty()
+        && !table_word.is_empty()
+        && !program_name.is_empty()
+        && !settings_name.is_empty()
         && is_target(target)
-        && !certificate.is_empty()
+        && !certificate_name.is_empty()
 }
 
-fn is_convert(verb: &str, program: &str, form: &str) -> bool
-    ensures { result ≡ (all_accept (convert_form (codes "json")) (verb.now ∷ program.now ∷ form.now ∷ []) || all_accept (convert_form (codes "text")) (verb.now ∷ program.now ∷ form.now ∷ [])) }
+fn is_convert(verb: &str, program_name: &str, form: &str) -> bool
+    ensures { result ≡ (all_accept (convert_form (codes "json")) (verb.now ∷ program_name.now ∷ form.now ∷ []) || all_accept (convert_form (codes "text")) (verb.now ∷ program_name.now ∷ form.now ∷ [])) }
 {
-    verb == "convert" && !program.is_empty() && (form == "json" || form == "text")
+    verb == "convert" && !program_name.is_empty() && (form == "json" || form == "text")
 }
 
 fn is_sample(verb: &str, seed: &str) -> bool

@@ -1,21 +1,26 @@
 -- Names and keys by hash are names and keys by a walk.
-use Rattle.std.proofs.Common.{◌≡◌, ℕ, ◌+◌, List, [], ◌∷◌, ◌++◌, map, length, position, bytes_eq, nat_eq, Vec, refl, ap, sym, ◌∙◌, cond, not, Bool, true, false}
+use Rattle.std.proofs.Common.{◌≡◌, ℕ, ◌+◌, List, [], ◌∷◌, ◌++◌, map, length, position, bytes_eq, String, string_bytes, IsUtf8, Some, None, is_some, refl, ap, sym, ◌∙◌, subst, cond, not, Bool, true, false, arith}
 use Rattle.std.specs.declared.alloc.Global.{Global}
-use Rattle.std.specs.List.{prefix_len, position_or_len, list_any}
-use Rattle.std.specs.Map.{keys_of}
+use Rattle.std.specs.Cmp.Lexicographic.{bytes_decides}
+use Rattle.std.specs.List.{position_or_len, list_any}
+use Rattle.std.specs.Map.{keys_of, lookup}
+use Rattle.std.proofs.lemmas.Bool.{cond-false, false_from_ne_true, le-ltb}
 use Rattle.std.proofs.lemmas.List.{length-map}
+use Rattle.std.proofs.lemmas.Map.Made.{is_some-lookup}
+use Rattle.std.proofs.lemmas.Str.{IsUtf8-string_bytes}
 use Rattle.indexmap.specs.IndexMap.{insert_entry}
 use Rattle.indexmap.specs.IndexSet.{insert_key}
 use Rattle.key_table.specs.declared.key.Domain as code
-use Rattle.key_table.specs.Tables.{Domain, find_key}
+use Rattle.key_table.specs.Names.{is_among}
+use Rattle.key_table.specs.Tables.{names_in, find_key}
 use Rattle.key_table.specs.NameLists.{with_name, with_key}
 use Rattle.key_table.specs.KeyViews.{domain_view, key_view}
 
-abbrev Bytes : Type 0
-Bytes = Vec ℕ Global
+abbrev Name : Type 0
+Name = String Global
 
-abbrev same : Bytes → Bytes → Bool
-same v w = bytes_eq v.items w.items
+abbrev same : Name → Name → Bool
+same v w = bytes_eq (string_bytes v) (string_bytes w)
 
 position_or_len-map : {X Y : Type 0} (p : Y → Bool) (f : X → Y) (xs : List X) → position_or_len (λ x. p (f x)) xs ≡ position_or_len p (map f xs)
 position_or_len-map p f [] = refl
@@ -36,23 +41,39 @@ map-append f (x ∷ xs) ys = ap (λ r. f x ∷ r) (map-append f xs ys)
 map-cond : {X Y : Type 0} (f : X → Y) (b : Bool) (xs ys : List X) → map f (cond b xs ys) ≡ cond b (map f xs) (map f ys)
 map-cond f b xs ys = elim b as (λ v. map f (cond v xs ys) ≡ cond v (map f xs) (map f ys)) [ true ↦ refl | false ↦ refl ]
 
-pub names-insert : (names : List Bytes) (name : Bytes) → map (λ v. v.items) (insert_key same names name) ≡ with_name (map (λ v. v.items) names) name.items
-names-insert names name = map-cond (λ v. v.items) (list_any (same name) names) names (names ++ name ∷ [])
-    ∙ rw (list_any-map (bytes_eq name.items) (λ (v : Bytes). v.items) names, map-append)
+pub names-insert : (names : List Name) (name : Name) → map string_bytes (insert_key same names name) ≡ with_name (map string_bytes names) (string_bytes name)
+names-insert names name = map-cond string_bytes (list_any (same name) names) names (names ++ name ∷ [])
+    ∙ rw (list_any-map (bytes_eq (string_bytes name)) string_bytes names, map-append)
 
-pub keys-insert : (es : List (Bytes × code.Domain)) (name : Bytes) (domain : code.Domain)
-    → map key_view (insert_entry same es name domain) ≡ with_key (map key_view es) name.items (domain_view domain)
+pub keys-insert : (es : List (Name × code.Domain)) (name : Name) (domain : code.Domain)
+    → map key_view (insert_entry same es name domain) ≡ with_key (map key_view es) (string_bytes name) (domain_view domain)
 keys-insert [] name domain = refl
 keys-insert (e ∷ es) name domain =
     map-cond key_view (same name e.0) ((e.0, domain) ∷ es) (e ∷ insert_entry same es name domain) ∙ rw (keys-insert es name domain)
 
-position-keys : (p : Bytes → Bool) (es : List (Bytes × code.Domain)) → position_or_len p (keys_of es) ≡ position_or_len (λ (e : Bytes × code.Domain). p e.0) es
-position-keys p [] = refl
-position-keys p (e ∷ es) = ap (λ n. cond (not (p e.0)) (1 + n) 0) (position-keys p es)
+-- the names of the keys, as they are kept
+names-keys : (es : List (Name × code.Domain)) → map string_bytes (keys_of es) ≡ names_in (map key_view es)
+names-keys [] = refl
+names-keys (e ∷ es) = ap (λ ns. string_bytes e.0 ∷ ns) (names-keys es)
 
-length-keys : (es : List (Bytes × code.Domain)) → length (keys_of es) ≡ length es
-length-keys es = length-map es (λ e. e.0)
+-- a name by its hash is a name by a walk
+pub names-found : (name : List ℕ) (names : List Name) → position (λ v. bytes_eq name (string_bytes v)) names ≡ position (bytes_eq name) (map string_bytes names)
+names-found name names = position-map (bytes_eq name) string_bytes names
 
 -- a key by its hash is a key by a walk
-pub keys-found : (name : List ℕ) (es : List (Bytes × code.Domain)) → position (λ (v : Bytes). bytes_eq name v.items) (keys_of es) ≡ find_key name (map key_view es)
-keys-found name es = rw (position-keys (λ (v : Bytes). bytes_eq name v.items) es, length-keys es) (position-map (λ k. bytes_eq name k.name) key_view es)
+pub keys-found : (name : List ℕ) (es : List (Name × code.Domain)) → position (λ v. bytes_eq name (string_bytes v)) (keys_of es) ≡ find_key name (map key_view es)
+keys-found name es = names-found name (keys_of es) ∙ ap (λ ns. position (bytes_eq name) ns) (names-keys es) ∙ sym (position-map (bytes_eq name) (λ k. k.name) (map key_view es))
+
+-- a key is there by its hash where its name is one of the names
+pub keys-had : (name : List ℕ) (es : List (Name × code.Domain)) → is_some (lookup (λ v. bytes_eq name (string_bytes v)) es) ≡ is_among name (names_in (map key_view es))
+keys-had name es = is_some-lookup (λ v. bytes_eq name (string_bytes v)) es ∙ list_any-map (bytes_eq name) string_bytes (keys_of es) ∙ ap (λ ns. list_any (bytes_eq name) ns) (names-keys es)
+
+len-unnamed : (name : List ℕ) (names : List Name) → (IsUtf8 name → ⊥) → position_or_len (λ v. bytes_eq name (string_bytes v)) names ≡ length names
+len-unnamed name [] other = refl
+len-unnamed name (n ∷ ns) other =
+    let differs : bytes_eq name (string_bytes n) ≡ false = false_from_ne_true _ (λ e. other (subst (λ x. IsUtf8 x) (sym ((bytes_decides name (string_bytes n)).0 e)) (IsUtf8-string_bytes n))) in
+    rw (differs, len-unnamed name ns other) (omega arith)
+
+-- bytes that are no text are no name
+pub unnamed : (name : List ℕ) (names : List Name) → (IsUtf8 name → ⊥) → position (λ v. bytes_eq name (string_bytes v)) names ≡ None
+unnamed name names other = rw (len-unnamed name names other) (cond-false _ (Some (length names)) None (le-ltb (length names) (length names) (omega arith)))

@@ -1,3 +1,4 @@
+pub mod AnswerLemmas
 pub mod ContextLemmas
 pub mod Cuts
 pub mod EqualLemmas
@@ -10,3 +11,4 @@ pub mod Runs
 pub mod Sorted
 pub mod TableFileLemmas
 pub mod TextLemmas
+pub mod UnderKeys

@@ -1,13 +1,12 @@
 -- Names and keys that stay well made as one is added.
-use Rattle.std.proofs.Common.{◌≡◌, ℕ, ◌+◌, ◌≤◌, ◌<◌, List, [], ◌∷◌, ◌++◌, length, map, take, drop, get_or, Bool, true, false, not, ◌&&◌, ◌||◌, cond, bytes_eq, nat_le, Option, Some, None, refl, sym, ap, ◌∙◌, subst, rules, arith, length-append, position, is_some, nat_lt, zero, suc, ◌⊎◌, inl, inr}
-use Rattle.std.specs.List.{list_any, list_all, position_or_len}
-use Rattle.std.proofs.lemmas.Bool.{false≢true, true≢false, and_parts, and_from, or_from, or_parts, not-true, not_from_false, le-leb, le-ltb, lt-ltb, cases_lt}
+use Rattle.std.proofs.Common.{◌≡◌, ℕ, ◌+◌, ◌≤◌, ◌<◌, List, [], ◌∷◌, ◌++◌, length, map, take, drop, get_or, Bool, true, false, not, ◌&&◌, ◌||◌, cond, bytes_eq, nat_le, refl, sym, ap, ◌∙◌, subst, rules, arith, length-append, zero, suc}
+use Rattle.std.specs.List.{list_any, list_all}
+use Rattle.std.proofs.lemmas.Bool.{false≢true, true≢false, and_parts, and_from, or_from, or_parts, not-true, not_from_false, le-leb}
 use Rattle.std.proofs.lemmas.Cmp.{nat_list_eq_equiv}
 use Rattle.std.proofs.lemmas.List.Folds.{list_any-append, list_all-append}
-use Rattle.key_table.proofs.Found.{list_any-map}
 use Rattle.key_table.specs.Names.{is_name, is_among, are_distinct, are_names}
 use Rattle.key_table.specs.NameLists.{with_name, with_names, with_key}
-use Rattle.key_table.specs.Tables.{Domain, Key, Table, names_in, is_domain, is_table, find_key}
+use Rattle.key_table.specs.Tables.{Domain, Key, Table, names_in, is_domain, is_table}
 
 pub are_names-nil : are_names [] ≡ true
 unfolding are_names
@@ -77,23 +76,6 @@ is_table-with_key table name domain well room named is =
     (and_from _ _ (le-leb _ _ (omega (arith, length-with_key table name domain)))
     (ap are_names (names-with_key table name domain) ∙ are_names-with_name (names_in table) name v.1 named))
     (domains-with_key table name domain w.1 is)
-
-first-within : {X : Type 0} (p : X → Bool) (xs : List X) → nat_lt (position_or_len p xs) (length xs) ≡ list_any p xs
-first-within p [] = refl
-first-within p (x ∷ xs) =
-    elim (p x) as (λ b. nat_lt (cond (not b) (1 + position_or_len p xs) 0) (length (x ∷ xs)) ≡ (b || list_any p xs))
-    [ true ↦ lt-ltb _ _ (omega arith) | false ↦ later (position_or_len p xs) (length xs) ∙ first-within p xs ]
-  where
-    later : (m n : ℕ) → nat_lt (1 + m) (suc n) ≡ nat_lt m n
-    later m n = elim (cases_lt m n) [ inl lt ↦ lt-ltb _ _ (omega arith) ∙ sym (lt-ltb m n lt) | inr le ↦ le-ltb _ _ (omega arith) ∙ sym (le-ltb m n le) ]
-
-is_some-cond : (b : Bool) (n : ℕ) → is_some (cond b (Some n) None) ≡ b
-is_some-cond true n = refl
-is_some-cond false n = refl
-
--- a key is found where its name is one of the names
-pub is_some_find_key : (name : List ℕ) (table : Table) → is_some (find_key name table) ≡ is_among name (names_in table)
-is_some_find_key name table = is_some-cond _ _ ∙ first-within (λ (k : Key). bytes_eq name k.name) table ∙ list_any-map (bytes_eq name) (λ (k : Key). k.name) table
 
 -- a key whose name is new goes last
 pub with_key_new : (table : Table) (name : List ℕ) (domain : Domain) → is_among name (names_in table) ≡ false → with_key table name domain ≡ table ++ record { name = name; domain = domain } ∷ []

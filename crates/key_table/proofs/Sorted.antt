@@ -18,7 +18,7 @@ use Rattle.key_table.specs.Payments.{value_of}
 pub slot_cmp_total : IsTotalOrder slot_cmp
 slot_cmp_total = search (comparing, rules)
 
-all_map : {K : Type 0} (P Q : K → Type 0) → ((x : K) → P x → Q x) → (ks : List K) → AllByRecursion P ks → AllByRecursion Q ks
+pub all_map : {K : Type 0} (P Q : K → Type 0) → ((x : K) → P x → Q x) → (ks : List K) → AllByRecursion P ks → AllByRecursion Q ks
 all_map P Q f [] h = tt
 all_map P Q f (k ∷ ks) h = (f k h.0, all_map P Q f ks h.1)
 
@@ -41,7 +41,7 @@ sorted_insert {R} t (e ∷ es) k v h =
 same_place : (s e t : Slot) → slot_cmp s e ≡ Equal → slot_cmp t s ≡ slot_cmp t e
 same_place s e t is = slot_cmp_total.antisymm t s ∙ ap ordering_reverse (slot_cmp_total.congr s e t is) ∙ sym (slot_cmp_total.antisymm t e)
 
-equal : (o : Ordering) → is_eq o ≡ true → o ≡ Equal
+pub equal : (o : Ordering) → is_eq o ≡ true → o ≡ Equal
 equal Less h = absurd (false≢true h)
 equal Equal h = refl
 equal Greater h = absurd (false≢true h)

@@ -1,6 +1,6 @@
 -- Payments: finite maps from slots to values, as their entries in ascending order of slots.
-use Rattle.std.specs.Prelude.{◌≡◌, List, Bool, true, Option, Some, if◌then◌else◌}
-use Rattle.std.specs.List.{list_all}
+use Rattle.std.specs.Prelude.{◌≡◌, ◌==◌, ℕ, List, Bool, true, Option, Some, if◌then◌else◌}
+use Rattle.std.specs.List.{filter, list_all}
 use Rattle.std.specs.List.Sorted.{IsStrictlySortedBy}
 use Rattle.std.specs.Map.{keys_of, lookup}
 use Rattle.std.specs.BTreeMap.{insert_entry, is_at}
@@ -23,6 +23,10 @@ value_of slot entries = lookup (is_at (slot_cmp slot)) entries
 -- the payment in which the slot has the datum, and every other slot what it had
 abbrev pub with_value : Entries → Slot → Datum → Entries
 with_value entries slot datum = insert_entry slot_cmp entries slot datum
+
+-- the entries under a key
+abbrev pub under : ℕ → Entries → Entries
+under key entries = filter (λ (e : Slot × Datum). e.0.key == key) entries
 
 -- whether each entry fits the table
 abbrev pub is_legal : Table → Entries → Bool

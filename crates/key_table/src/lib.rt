@@ -3,6 +3,7 @@
 
 mod atom;
 mod built_in;
+mod entries;
 mod key;
 mod laws;
 mod names;
@@ -13,8 +14,10 @@ mod stop;
 mod table;
 mod table_file;
 mod text;
+mod word;
 
 pub use atom::{Atom, Op, Test, Verdict3, atom_holds, option_law};
+pub use entries::{Entries, Under};
 pub use key::Kind;
 pub use laws::{atom_law, forces_law, left_law, legal_law, slot_law};
 pub use payment::{Payment, put_law};
@@ -23,6 +26,7 @@ pub use slot::{Datum, Slot};
 pub use stop::{NoMemory, NotUtf8, Stop};
 pub use table::{KeyTable, TableError};
 pub use text::Text;
+pub use word::is_word;
 
 #[cfg(test)]
 mod tests;

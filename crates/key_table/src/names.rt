@@ -7,23 +7,24 @@ use crate::NoMemory;
 use indexmap::IndexSet;
 use std::alloc::Global;
 use std::marker::Model;
+use std::str;
 
 /// At most 1,024 names in order, each once and found by its hash. Contracts see the list of them.
 #[derive(Drop)]
 pub(crate) struct Names {
-    names: IndexSet<Vec<u8>>,
+    names: IndexSet<String>,
 }
 
 impl Model for Names {
-    ghost use Rattle.std.specs.Prelude.{◌≡◌, ℕ, List, map, length, ◌≤◌, true};
+    ghost use Rattle.std.specs.Prelude.{◌≡◌, ℕ, List, map, length, ◌≤◌, true, string_bytes};
 
     ghost Value = { List (List ℕ) };
 
-    ghost view = { λ n. map (λ v. v.items) n.names.keys };
+    ghost view = { λ n. map string_bytes n.names.keys };
 
     ghost use Rattle.key_table.specs.Names.{are_names};
 
-    ghost invariant = { λ n. (length n.names.keys ≤ 1024) × (are_names (map (λ v. v.items) n.names.keys) ≡ true) };
+    ghost invariant = { λ n. (length n.names.keys ≤ 1024) × (are_names (map string_bytes n.names.keys) ≡ true) };
 }
 
 impl Names {
@@ -56,7 +57,7 @@ impl Names {
         ensures is_new { IfOk result (λ is_new. is_new ≡ not (is_among name.now self.old)) }
         ensures count { length self.new ≤ length self.old + 1 }
     {
-        let name = Vec::from_slice(alloc, name.as_bytes())?;
+        let name = String::from_str(alloc, name)?;
         Ok(self.names.insert(name)?)
     }
 
@@ -73,19 +74,23 @@ impl Names {
         ensures place { result ≡ position (λ n. bytes_eq name.now n) self.now }
         ensures within { IfSome result (λ place. place < length self.now) }
     {
-        match self.names.get_index_of(name) {
+        let names = &self.names;
+        let Ok(name) = str::from_utf8(name) else {
+            return None;
+        };
+        match names.get_index_of(name) {
             Some(place) => Some(place as u32),
             None => None,
         }
     }
 
     /// The name at a place.
-    pub(crate) fn get(&self, place: u32) -> &[u8]
+    pub(crate) fn get(&self, place: u32) -> &str
         requires { place < length self.now }
         ensures { slice_get self.now place ≡ Some result.now }
     {
         match self.names.get_index(place as usize) {
-            Some(name) => name.as_slice(),
+            Some(name) => name.as_str(),
             None => unreachable!(),
         }
     }

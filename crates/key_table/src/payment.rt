@@ -1,8 +1,9 @@
-ghost use Rattle.std.specs.Prelude.{◌≡◌, [], ◌∷◌, ◌+◌, ◌<◌, ◌≤◌, length, take, drop, slice_get, vec_len, option_map, IfSome, IfOk, OnOk, OnErr, Some, option_copied};
+ghost use Rattle.std.specs.Prelude.{◌≡◌, [], ◌+◌, ◌<◌, ◌≤◌, length, map, take, drop, slice_get, vec_len, option_map, IfSome, IfOk, OnOk, OnErr, Some, option_copied};
 ghost use Rattle.key_table.specs.Slots.{slot_cmp, at};
-ghost use Rattle.key_table.specs.Payments.{AreAscending, PutLaw, value_of, with_value, is_legal};
-ghost use Rattle.key_table.specs.Places.{AreBefore, AreAfter, AreRuns, IsPlace, entries_of, are_legal};
+ghost use Rattle.key_table.specs.Payments.{AreAscending, PutLaw, value_of, with_value, under, is_legal};
+ghost use Rattle.key_table.specs.Places.{AreBefore, AreAfter, AreFilled, AreRuns, IsPlace, IsSplit, entries_of, parts_of, with_entry, front_under, are_legal};
 
+use crate::entries::{Entries, Under};
 use crate::slot::order;
 use crate::{Datum, KeyTable, NoMemory, Slot, Text};
 use std::alloc::Global;
@@ -19,8 +20,11 @@ pub struct Payment {
 
 type Run = Vec<(Slot, Datum)>;
 
-// A run with this many entries is split before one is added.
+// The most entries of a run.
 const MOST_RUN: usize = 512;
+
+// A run with fewer entries takes one that goes between it and the run in front of it.
+const HALF_RUN: usize = 256;
 
 impl Model for Payment {
     ghost use Rattle.std.specs.Prelude.{◌≡◌, length};
@@ -76,18 +80,33 @@ impl Payment {
         value_in(&self.runs, key, sub)
     }
 
-    /// The number of slots that are there.
+    /// The number of slots that are there. They stand in strictly ascending order: by key, no sub name first, then by its
+    /// bytes.
     pub fn count(&self) -> usize
-        ensures { result ≡ length self.now }
+        ensures count { result ≡ length self.now }
+        ensures ascending { AreAscending self.now }
     {
         self.count
     }
 
-    /// The slot at a place. Slots stand in strictly ascending order: by key, no sub name first, then by its bytes.
+    /// The entries, in order.
+    pub fn iter(&self) -> Entries<'_>
+        ensures { result ≡ self.now }
+    {
+        Entries::new(&[], &self.runs)
+    }
+
+    /// The entries under a key, in order.
+    pub fn under(&self, key: u32) -> Under<'_>
+        ensures { result ≡ under key self.now }
+    {
+        Under::new(key, entries_from(&self.runs, key))
+    }
+
+    /// The slot at a place.
     pub fn slot_of(&self, place: usize) -> &Slot
         requires { place < length self.now }
-        ensures slot { option_map (λ (e : Slot × Datum). e.0) (slice_get self.now place) ≡ Some result.now }
-        ensures ascending { AreAscending self.now }
+        ensures { option_map (λ (e : Slot × Datum). e.0) (slice_get self.now place) ≡ Some result.now }
     {
         let entry = entry_at(&self.runs, place);
         &entry.0
@@ -108,6 +127,16 @@ impl Payment {
     {
         are_legal(&self.runs, table)
     }
+
+    /// An equal payment.
+    pub fn copy(&self) -> Result<Payment, NoMemory>
+        ensures { IfOk result (λ p. p ≡ self.now) }
+    {
+        Ok(Payment {
+            runs: copy_of(&self.runs)?,
+            count: self.count,
+        })
+    }
 }
 
 /// After a put the slot has the datum, and every other slot has what it had.
@@ -125,61 +154,13 @@ fn put_into(runs: &mut Vec<Run>, slot: Slot, datum: Datum) -> Result<usize, NoMe
     ensures are_runs { AreRuns runs.new.items }
 {
     if runs.is_empty() {
-        begin(runs, slot, datum)?;
+        begin(runs, 0, (slot, datum))?;
         return Ok(1);
     }
-    make_room(runs, slot.key, slot.sub.as_ref())?;
     put_among(runs, slot, datum)
 }
 
-// Makes a first run of one entry.
-fn begin(runs: &mut Vec<Run>, slot: Slot, datum: Datum) -> Result<(), NoMemory>
-    requires { runs.old.items ≡ [] }
-    ensures ok { OnOk result (entries_of runs.new.items ≡ (slot, datum) ∷ []) }
-    ensures err { OnErr result (runs.new.items ≡ []) }
-    ensures are_runs { AreRuns runs.new.items }
-{
-    let mut run = Vec::new(*runs.allocator());
-    run.push((slot, datum))?;
-    runs.push(run)?;
-    Ok(())
-}
-
-// Splits the run to which a slot goes, where it is full.
-fn make_room(runs: &mut Vec<Run>, key: u32, sub: Option<&Text>) -> Result<(), NoMemory>
-    requires some { 0 < vec_len runs.old }
-    requires are_runs { AreRuns runs.old.items }
-    ensures entries { entries_of runs.new.items ≡ entries_of runs.old.items }
-    ensures are_runs { AreRuns runs.new.items }
-    ensures longer { vec_len runs.old ≤ vec_len runs.new }
-{
-    let i = run_of(runs, key, sub);
-    let run = &runs[i];
-    if run.len() < MOST_RUN || place(run, key, sub).is_ok() {
-        return Ok(());
-    }
-    split(runs, i)
-}
-
-// Splits a run in two halves.
-fn split(runs: &mut Vec<Run>, i: usize) -> Result<(), NoMemory>
-    requires within { i < vec_len runs.old }
-    requires are_runs { AreRuns runs.old.items }
-    requires two { IfSome (slice_get runs.old.items i) (λ run. 2 ≤ vec_len run) }
-    ensures entries { entries_of runs.new.items ≡ entries_of runs.old.items }
-    ensures are_runs { AreRuns runs.new.items }
-    ensures longer { vec_len runs.old ≤ vec_len runs.new }
-{
-    // Room for the tail comes first, so that once it is split off nothing can fail.
-    runs.reserve(1)?;
-    let run = &mut runs[i];
-    let middle = run.len() / 2;
-    let tail = run.split_off(middle)?;
-    runs.insert(i + 1, tail)?;
-    Ok(())
-}
-
-// Puts a datum at a slot of the run to which it goes, and says how many entries that added.
+// Puts a datum at a slot, and says how many entries that added.
 fn put_among(runs: &mut Vec<Run>, slot: Slot, datum: Datum) -> Result<usize, NoMemory>
     requires some { 0 < vec_len runs.old }
     requires are_runs { AreRuns runs.old.items }
@@ -190,27 +171,129 @@ fn put_among(runs: &mut Vec<Run>, slot: Slot, datum: Datum) -> Result<usize, NoM
     ensures are_runs { AreRuns runs.new.items }
 {
     let i = run_of(runs, slot.key, slot.sub.as_ref());
-    put_into_run(&mut runs[i], slot, datum)
-}
-
-// Puts a datum at a slot of a run, and says how many entries that added.
-fn put_into_run(entries: &mut Run, slot: Slot, datum: Datum) -> Result<usize, NoMemory>
-    requires { AreAscending entries.old.items }
-    ensures ok { OnOk result (entries.new.items ≡ with_value entries.old.items slot datum) }
-    ensures added { IfOk result (λ added. length entries.new.items ≡ length entries.old.items + added) }
-    ensures one { IfOk result (λ added. added ≤ 1) }
-    ensures err { OnErr result (entries.new.items ≡ entries.old.items) }
-{
-    match place(entries, slot.key, slot.sub.as_ref()) {
+    match place(&runs[i], slot.key, slot.sub.as_ref()) {
         Ok(place) => {
-            entries[place].1 = datum;
+            let run = &mut runs[i];
+            run[place].1 = datum;
             Ok(0)
         }
         Err(place) => {
-            entries.insert(place, (slot, datum))?;
+            insert_at(runs, i, place, (slot, datum))?;
             Ok(1)
         }
     }
+}
+
+// Adds an entry at a place of a run. A full run is split first, unless the entry goes behind it.
+fn insert_at(
+    runs: &mut Vec<Run>,
+    i: usize,
+    place: usize,
+    entry: (Slot, Datum),
+) -> Result<(), NoMemory>
+    requires run { i < vec_len runs.old }
+    requires place { IfSome (slice_get runs.old.items i) (λ run. place ≤ length run.items) }
+    requires filled { AreFilled runs.old.items }
+    ensures ok { OnOk result (entries_of runs.new.items ≡ with_entry runs.old.items i place entry) }
+    ensures err { OnErr result (entries_of runs.new.items ≡ entries_of runs.old.items) }
+    ensures filled { AreFilled runs.new.items }
+{
+    let len = runs[i].len();
+    if len < MOST_RUN {
+        insert_into(runs, i, place, entry)
+    } else if place < len {
+        insert_into_half(runs, i, place, entry)
+    } else {
+        insert_behind(runs, i, entry)
+    }
+}
+
+// Adds an entry at a place of a run.
+fn insert_into(
+    runs: &mut Vec<Run>,
+    i: usize,
+    place: usize,
+    entry: (Slot, Datum),
+) -> Result<(), NoMemory>
+    requires run { i < vec_len runs.old }
+    requires place { IfSome (slice_get runs.old.items i) (λ run. place ≤ length run.items) }
+    requires filled { AreFilled runs.old.items }
+    ensures ok { OnOk result (entries_of runs.new.items ≡ with_entry runs.old.items i place entry) }
+    ensures err { OnErr result (entries_of runs.new.items ≡ entries_of runs.old.items) }
+    ensures filled { AreFilled runs.new.items }
+{
+    let run = &mut runs[i];
+    run.insert(place, entry)?;
+    Ok(())
+}
+
+// Splits a run in two halves, and adds an entry at a place of it.
+fn insert_into_half(
+    runs: &mut Vec<Run>,
+    i: usize,
+    place: usize,
+    entry: (Slot, Datum),
+) -> Result<(), NoMemory>
+    requires run { i < vec_len runs.old }
+    requires two { IfSome (slice_get runs.old.items i) (λ run. 2 ≤ length run.items) }
+    requires place { IfSome (slice_get runs.old.items i) (λ run. place ≤ length run.items) }
+    requires filled { AreFilled runs.old.items }
+    ensures ok { OnOk result (entries_of runs.new.items ≡ with_entry runs.old.items i place entry) }
+    ensures err { OnErr result (entries_of runs.new.items ≡ entries_of runs.old.items) }
+    ensures filled { AreFilled runs.new.items }
+{
+    let middle = split(runs, i)?;
+    if place <= middle {
+        insert_into(runs, i, place, entry)
+    } else {
+        insert_into(runs, i + 1, place - middle, entry)
+    }
+}
+
+// Adds an entry between a run and the next one: to that one where it is less than half full, else as a run of its own.
+fn insert_behind(runs: &mut Vec<Run>, i: usize, entry: (Slot, Datum)) -> Result<(), NoMemory>
+    requires run { i < vec_len runs.old }
+    requires filled { AreFilled runs.old.items }
+    ensures ok { OnOk result (entries_of runs.new.items ≡ with_entry runs.old.items (i + 1) 0 entry) }
+    ensures err { OnErr result (entries_of runs.new.items ≡ entries_of runs.old.items) }
+    ensures filled { AreFilled runs.new.items }
+{
+    if i + 1 < runs.len() && runs[i + 1].len() < HALF_RUN {
+        insert_into(runs, i + 1, 0, entry)
+    } else {
+        begin(runs, i + 1, entry)
+    }
+}
+
+// Adds a run of one entry in front of a run, or behind the last one.
+fn begin(runs: &mut Vec<Run>, i: usize, entry: (Slot, Datum)) -> Result<(), NoMemory>
+    requires run { i ≤ vec_len runs.old }
+    requires filled { AreFilled runs.old.items }
+    ensures ok { OnOk result (entries_of runs.new.items ≡ with_entry runs.old.items i 0 entry) }
+    ensures err { OnErr result (entries_of runs.new.items ≡ entries_of runs.old.items) }
+    ensures filled { AreFilled runs.new.items }
+{
+    let mut run = Vec::new(*runs.allocator());
+    run.push(entry)?;
+    runs.insert(i, run)?;
+    Ok(())
+}
+
+// Splits a run in two halves, and says how many entries the first one has.
+fn split(runs: &mut Vec<Run>, i: usize) -> Result<usize, NoMemory>
+    requires run { i < vec_len runs.old }
+    requires two { IfSome (slice_get runs.old.items i) (λ run. 2 ≤ length run.items) }
+    requires filled { AreFilled runs.old.items }
+    ensures ok { IfOk result (λ middle. IsSplit runs.old.items runs.new.items i middle) }
+    ensures err { OnErr result (runs.new.items ≡ runs.old.items) }
+{
+    // Room for the tail comes first, so that once it is split off nothing can fail.
+    runs.reserve(1)?;
+    let run = &mut runs[i];
+    let middle = run.len() / 2;
+    let tail = run.split_off(middle)?;
+    runs.insert(i + 1, tail)?;
+    Ok(middle)
 }
 
 // What stands at a slot.
@@ -261,6 +344,33 @@ fn place(entries: &[(Slot, Datum)], key: u32, sub: Option<&Text>) -> Result<usiz
     entries.binary_search_by(|entry| order(key, sub, &entry.0).reverse())
 }
 
+// The entries that do not stand before the slots of a key.
+fn entries_from(runs: &[Run], key: u32) -> Entries<'_>
+    requires { AreRuns runs.now }
+    ensures { front_under key result ≡ under key (entries_of runs.now) }
+{
+    if runs.is_empty() {
+        return Entries::none();
+    }
+    let i = run_of(runs, key, None);
+    let run = &runs[i];
+    let first = first_place(run, key);
+    Entries::new(&run[first..], &runs[i + 1..])
+}
+
+// The place of the first entry of a run that does not stand before the slots of a key.
+fn first_place(entries: &[(Slot, Datum)], key: u32) -> usize
+    requires { AreAscending entries.now }
+    ensures within { result ≤ length entries.now }
+    ensures before { AreBefore (at key None) (take result entries.now) }
+    ensures from { IfSome (slice_get entries.now result) (λ e. key ≤ e.0.key) }
+{
+    match place(entries, key, None) {
+        Ok(place) => place,
+        Err(place) => place,
+    }
+}
+
 // The entry at a place, which is counted from the first run on.
 fn entry_at(runs: &[Run], place: usize) -> &(Slot, Datum)
     requires { place < length (entries_of runs.now) }
@@ -290,4 +400,26 @@ fn is_run_legal(entries: &[(Slot, Datum)], table: &KeyTable) -> bool
     entries
         .iter()
         .all(|entry| table.datum_fits(&entry.0, &entry.1))
+}
+
+// Runs with the same entries.
+fn copy_of(runs: &Vec<Run>) -> Result<Vec<Run>, NoMemory>
+    ensures { IfOk result (λ copy. parts_of copy.items ≡ parts_of runs.now.items) }
+{
+    let mut copy = Vec::with_capacity(*runs.allocator(), runs.len())?;
+    for run in runs {
+        copy.push(copy_run(run)?)?;
+    }
+    Ok(copy)
+}
+
+// A run with the same entries.
+fn copy_run(run: &Run) -> Result<Run, NoMemory>
+    ensures { IfOk result (λ copy. copy.items ≡ run.now.items) }
+{
+    let mut copy = Vec::with_capacity(*run.allocator(), run.len())?;
+    for (slot, datum) in run {
+        copy.push((slot.copy()?, datum.copy()?))?;
+    }
+    Ok(copy)
 }

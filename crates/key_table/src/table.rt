@@ -1,5 +1,5 @@
 ghost use Rattle.std.specs.Prelude.{◌≡◌, ◌<◌, ◌≤◌, ◌+◌, [], length, Some, None, IfSome, slice_get, option_map, OnOk, OnErr, true};
-ghost use Rattle.key_table.specs.Tables.{names_in, find_key, name_at, domain_at, kind_at, variants_at, find_variant, bounds_at, is_domain, is_table, datum_fits};
+ghost use Rattle.key_table.specs.Tables.{names_in, find_key, name_at, domain_at, kind_at, variants_at, find_variant, bounds_at, is_domain, is_table, slot_fits, datum_fits};
 ghost use Rattle.key_table.specs.NameLists.{with_key};
 ghost use Rattle.key_table.specs.Names.{is_name, is_among};
 ghost use Rattle.key_table.specs.Atoms.{atom_fits};
@@ -9,6 +9,7 @@ use crate::{Atom, Datum, Kind, NoMemory, Slot};
 use indexmap::IndexMap;
 use std::alloc::Global;
 use std::marker::Model;
+use std::str;
 use thiserror::Error;
 
 /// The first fault of a key table file: its code, and the number of the key at which it stands, where there is one.
@@ -23,7 +24,7 @@ pub struct TableError {
 /// numbers, from 0 in the order of the table.
 #[derive(Drop)]
 pub struct KeyTable {
-    keys: IndexMap<Vec<u8>, Domain>,
+    keys: IndexMap<String, Domain>,
 }
 
 impl Model for KeyTable {
@@ -58,7 +59,7 @@ impl KeyTable {
         ensures ok { OnOk result (self.new ≡ with_key self.old name.now (domain_view domain)) }
         ensures count { length self.new ≤ length self.old + 1 }
     {
-        let name = Vec::from_slice(alloc, name.as_bytes())?;
+        let name = String::from_str(alloc, name)?;
         self.keys.insert(name, domain)?;
         Ok(())
     }
@@ -87,17 +88,21 @@ impl KeyTable {
         ensures number { result ≡ find_key name.now self.now }
         ensures within { IfSome result (λ key. key < length self.now) }
     {
-        match self.keys.get_index_of(name) {
+        let keys = &self.keys;
+        let Ok(name) = str::from_utf8(name) else {
+            return None;
+        };
+        match keys.get_index_of(name) {
             Some(key) => Some(key as u32),
             None => None,
         }
     }
 
     /// Whether a key has the name.
-    pub(crate) fn has(&self, name: &[u8]) -> bool
+    pub(crate) fn has(&self, name: &str) -> bool
         ensures { result ≡ is_among name.now (names_in self.now) }
     {
-        self.find(name).is_some()
+        self.keys.contains_key(name)
     }
 
     /// The name of a key.
@@ -105,8 +110,16 @@ impl KeyTable {
         requires { key < length self.now }
         ensures { name_at key self.now ≡ Some result.now }
     {
+        self.name_as_str(key).as_bytes()
+    }
+
+    /// The same name as a text.
+    pub fn name_as_str(&self, key: u32) -> &str
+        requires { key < length self.now }
+        ensures { name_at key self.now ≡ Some result.now }
+    {
         match self.keys.get_index(key as usize) {
-            Some((name, _)) => name.as_slice(),
+            Some((name, _)) => name.as_str(),
             None => unreachable!(),
         }
     }
@@ -149,6 +162,14 @@ impl KeyTable {
         requires { variant < length (variants_at key self.now) }
         ensures { slice_get (variants_at key self.now) variant ≡ Some result.now }
     {
+        self.variant_as_str(key, variant).as_bytes()
+    }
+
+    /// The same name as a text.
+    pub fn variant_as_str(&self, key: u32, variant: u32) -> &str
+        requires { variant < length (variants_at key self.now) }
+        ensures { slice_get (variants_at key self.now) variant ≡ Some result.now }
+    {
         match self.domain(key) {
             Some(Domain::Enum(names)) => names.get(variant),
             _ => unreachable!(),
@@ -166,9 +187,19 @@ impl KeyTable {
         }
     }
 
-    /// Whether the slot is legal and the value is legal there. A slot is legal where its key is in the table and it has a
-    /// sub name, of at most 255 bytes, exactly where the key is metadata. A value is legal where it is a variant of
-    /// the key, a number within its bounds, or a text of at most 1,024 bytes under a text or metadata key.
+    /// Whether the slot is legal: its key is in the table, and it has a sub name, of at most 255 bytes, exactly where the
+    /// key is metadata.
+    pub fn slot_fits(&self, slot: &Slot) -> bool
+        ensures { result ≡ slot_fits self.now slot.now }
+    {
+        match self.domain(slot.key) {
+            Some(domain) => domain.has_sub(slot.sub.as_ref()),
+            None => false,
+        }
+    }
+
+    /// Whether the slot is legal and the value is legal there: it is a variant of the key, a number within its bounds, or
+    /// a text of at most 1,024 bytes under a text or metadata key.
     pub fn datum_fits(&self, slot: &Slot, datum: &Datum) -> bool
         ensures { result ≡ datum_fits self.now slot.now datum.now }
     {

@@ -1,16 +1,15 @@
 ghost use Rattle.std.specs.Prelude.{◌≡◌, ◌≤◌, ◌<◌, ◌+◌, [], length, map, option_map, IfOk, true, false};
-ghost use Rattle.std.specs.List.{list_all};
 ghost use Rattle.toml.specs.View.{view};
 ghost use Rattle.key_table.specs.Answers.{Answers};
 ghost use Rattle.key_table.specs.declared.stop.Stop.TheVariants.{Fault};
 ghost use Rattle.key_table.specs.KeyViews.{domain_view};
-ghost use Rattle.key_table.specs.Names.{is_letter, is_letter_or_digit, is_word, is_name, is_among};
+ghost use Rattle.key_table.specs.Names.{is_name, is_among};
 ghost use Rattle.key_table.specs.Tables.{variants, names_in, is_domain};
 ghost use Rattle.key_table.specs.TableFiles.{fault, document_of, in_turn, name_of, name_added, variants_of, integer_or, bounds_of, domain_of, key_name, key_added, keys_under, table_of};
 
 use crate::key::{Domain, MOST_NAME_BYTES};
 use crate::names::Names;
-use crate::{KeyTable, Stop, TableError};
+use crate::{KeyTable, Stop, TableError, is_word};
 use std::alloc::Global;
 use toml::Value;
 
@@ -124,7 +123,7 @@ fn key_name<'a>(table: &KeyTable, entry: &'a Value) -> Result<&'a str, Stop<Tabl
         return Err(fault(BAD_NAME, key));
     };
     let name = name(value, BAD_NAME, key)?;
-    if table.has(name.as_bytes()) {
+    if table.has(name) {
         return Err(fault(REPEATED, key));
     }
     Ok(name)
@@ -145,34 +144,6 @@ fn name(value: &Value, other: u8, key: u32) -> Result<&str, Stop<TableError>>
         return Err(fault(LIMIT, key));
     }
     Ok(text)
-}
-
-// Whether the bytes are a letter or `_`, and then letters, digits and `_`.
-fn is_word(bytes: &[u8]) -> bool
-    ensures { result ≡ is_word bytes.now }
-{
-    match bytes.split_first() {
-        Some((first, rest)) => is_letter(*first) && are_letters_or_digits(rest),
-        None => false,
-    }
-}
-
-fn are_letters_or_digits(bytes: &[u8]) -> bool
-    ensures { result ≡ list_all is_letter_or_digit bytes.now }
-{
-    bytes.iter().all(|byte| is_letter_or_digit(*byte))
-}
-
-fn is_letter(byte: u8) -> bool
-    ensures { result ≡ is_letter byte }
-{
-    byte.is_ascii_alphabetic() || byte == b'_'
-}
-
-fn is_letter_or_digit(byte: u8) -> bool
-    ensures { result ≡ is_letter_or_digit byte }
-{
-    is_letter(byte) || byte.is_ascii_digit()
 }
 
 // What may stand at the slots of a key.

@@ -1,4 +1,4 @@
--- Entries in ascending order: puts keep it, and what stands at each slot says which entries they are.
+-- Entries in ascending order: what stands at each slot says which entries they are.
 use Rattle.std.proofs.Common.{◌≡◌, ◌≤◌, length, arith, List, [], ◌∷◌, Bool, true, false, cond, Option, Some, None, refl, ap, sym, ◌∙◌, Ordering, Less, Equal, Greater, is_eq, subst}
 use Rattle.std.specs.Ordering.{ordering_reverse, match_ordering}
 use Rattle.std.specs.List.{AllByRecursion}
@@ -10,57 +10,11 @@ use Rattle.key_table.specs.declared.slot.Slot.{Slot}
 use Rattle.key_table.specs.declared.slot.Datum.{Datum}
 use Rattle.key_table.specs.Slots.{slot_cmp}
 use Rattle.key_table.specs.Payments.{Entries, AreAscending, value_of, with_value}
-use Rattle.payment_reader.proofs.Slots.{slot_cmp_total, same_slot, is-equal}
+use Rattle.key_table.proofs.OptionLemmas.{same_slot}
+use Rattle.key_table.proofs.Sorted.{slot_cmp_total, all_map, equal}
 
 abbrev pub Entry : Type 0
 Entry = Slot × Datum
-
--- ---- a put
-
-all_above : (P Q : Slot → Type 0) → ((x : Slot) → P x → Q x) → (ks : List Slot) → AllByRecursion P ks → AllByRecursion Q ks
-all_above P Q f [] h = tt
-all_above P Q f (k ∷ ks) h = (f k h.0, all_above P Q f ks h.1)
-
-all_put : (P : Slot → Type 0) (es : Entries) (s : Slot) (d : Datum) → AllByRecursion P (keys_of es) → P s → AllByRecursion P (keys_of (with_value es s d))
-all_put P [] s d h p = (p, tt)
-all_put P (e ∷ es) s d h p =
-    elim (slot_cmp s e.0) as (λ o. AllByRecursion P (keys_of (match_ordering o ((s, d) ∷ e ∷ es) ((e.0, d) ∷ es) (e ∷ with_value es s d))))
-    [ Less ↦ (p, h) | Equal ↦ h | Greater ↦ (h.0, all_put P es s d h.1 p) ]
-
--- entries stay in ascending order
-pub ascending_put : (es : Entries) (s : Slot) (d : Datum) → AreAscending es → AreAscending (with_value es s d)
-unfolding IsStrictlySortedBy
-ascending_put [] s d h = (tt, tt)
-ascending_put (e ∷ es) s d h =
-    elim (slot_cmp s e.0) as (λ o. slot_cmp s e.0 ≡ o → IsStrictlySortedBy slot_cmp (keys_of (match_ordering o ((s, d) ∷ e ∷ es) ((e.0, d) ∷ es) (e ∷ with_value es s d)))) [
-      | Less ↦ (λ is. ((is, all_above _ _ (λ x above. slot_cmp_total.trans s e.0 x is above) (keys_of es) h.0), h))
-      | Equal ↦ (λ is. h)
-      | Greater ↦ (λ is. (all_put _ es s d h.0 (slot_cmp_total.antisymm e.0 s ∙ ap ordering_reverse is), ascending_put es s d h.1))
-    ] refl
-
-same_place : (s e t : Slot) → slot_cmp s e ≡ Equal → slot_cmp t s ≡ slot_cmp t e
-same_place s e t is = slot_cmp_total.antisymm t s ∙ ap ordering_reverse (slot_cmp_total.congr s e t is) ∙ sym (slot_cmp_total.antisymm t e)
-
-over : {X : Type 0} (b : Bool) (x y rest : Option X) → cond b x rest ≡ cond b x (cond b y rest)
-over true x y rest = refl
-over false x y rest = refl
-
-swap_tests : {X : Type 0} (a b : Bool) (x y rest : Option X) → (a ≡ true → b ≡ true → ⊥) → cond a x (cond b y rest) ≡ cond b y (cond a x rest)
-swap_tests true true x y rest apart = absurd (apart refl refl)
-swap_tests true false x y rest apart = refl
-swap_tests false b x y rest apart = refl
-
--- after a put the slot has the datum, and every other slot has what it had
-pub value_put : (es : Entries) (s t : Slot) (d : Datum) → value_of t (with_value es s d) ≡ cond (is_eq (slot_cmp t s)) (Some d) (value_of t es)
-value_put [] s t d = refl
-value_put (e ∷ es) s t d =
-    elim (slot_cmp s e.0) as (λ o. slot_cmp s e.0 ≡ o → value_of t (match_ordering o ((s, d) ∷ e ∷ es) ((e.0, d) ∷ es) (e ∷ with_value es s d)) ≡ cond (is_eq (slot_cmp t s)) (Some d) (value_of t (e ∷ es))) [
-      | Less ↦ (λ is. refl)
-      | Equal ↦ (λ is. rw (same_place s e.0 t is) (over (is_eq (slot_cmp t e.0)) (Some d) (Some e.1) (value_of t es)))
-      | Greater ↦ (λ is. ap (λ r. cond (is_eq (slot_cmp t e.0)) (Some e.1) r) (value_put es s t d) ∙ swap_tests (is_eq (slot_cmp t e.0)) (is_eq (slot_cmp t s)) (Some e.1) (Some d) (value_of t es) (λ a b. true≢false (sym a ∙ ap is_eq (slot_cmp_total.congr t s e.0 (is-equal _ b)) ∙ ap is_eq is)))
-    ] refl
-
--- ---- equal entries
 
 self : (s : Slot) → slot_cmp s s ≡ Equal
 self s = tied_itself slot_cmp_total s
@@ -75,7 +29,7 @@ value_before s [] h = refl
 value_before s (e ∷ es) h = rw (h.0, value_before s es h.1)
 
 value_before_first : (s : Slot) (e : Entry) (es : Entries) → slot_cmp s e.0 ≡ Less → AllByRecursion (λ (y : Slot). slot_cmp e.0 y ≡ Less) (keys_of es) → value_of s (e ∷ es) ≡ None
-value_before_first s e es is h = value_before s (e ∷ es) (is, all_above _ _ (λ x above. slot_cmp_total.trans s e.0 x is above) (keys_of es) h)
+value_before_first s e es is h = value_before s (e ∷ es) (is, all_map _ _ (λ x above. slot_cmp_total.trans s e.0 x is above) (keys_of es) h)
 
 apart : {X : Type 0} (o : Option X) (x : X) → o ≡ None → Some x ≡ o → ⊥
 apart o x none some = let no : ⊥ = cc in no
@@ -89,7 +43,7 @@ rest_equal e f es fs same above above' t h =
     let step : (b : Bool) → is_eq (slot_cmp t e.0) ≡ b → value_of t es ≡ value_of t fs =
     λ b. elim b as (λ b. is_eq (slot_cmp t e.0) ≡ b → value_of t es ≡ value_of t fs) [
       | true ↦ (λ here.
-          let at_e : t ≡ e.0 = same_slot t e.0 (is-equal (slot_cmp t e.0) here) in
+          let at_e : t ≡ e.0 = same_slot t e.0 (equal (slot_cmp t e.0) here) in
           let P : Slot → Type 0 = λ s. value_of s es ≡ None in
           let Q : Slot → Type 0 = λ s. value_of s fs ≡ None in
           subst P (sym at_e) (value_before e.0 es above) ∙ sym (subst Q (sym (at_e ∙ same)) (value_before f.0 fs above')))
@@ -137,9 +91,3 @@ pub all_there : (es : Entries) → AreAscending es → AreThere es es
 unfolding IsStrictlySortedBy
 all_there [] up = tt
 all_there (e ∷ es) up = (value_here e es, there_more e es es up.0 (all_there es up.1))
-
--- no entries ascend
-pub ascending_none : (es : Entries) → length es ≤ 0 → AreAscending es
-unfolding IsStrictlySortedBy
-ascending_none [] none = tt
-ascending_none (e ∷ es) none = absurd (omega arith)

@@ -1,8 +1,7 @@
 -- Reading what was written: each field puts what stood under its key.
 use Rattle.std.proofs.Common.{◌≡◌, ℕ, ◌+◌, ◌<◌, ◌≤◌, ◌⊎◌, inl, inr, List, [], ◌∷◌, length, Bool, true, false, cond, ◌&&◌, Option, Some, None, Result, Ok, ℤ, refl, ap, sym, ◌∙◌, subst, arith, slice_get, get_or, eqb, leb, is_eq, count_by}
-use Rattle.std.specs.Prelude.{int_le}
 use Rattle.std.proofs.lemmas.Bool.{and_parts, false≢true, true≢false, ltb-true, eqb-true, eqb-false, le-leb}
-use Rattle.std.proofs.lemmas.List.Sums.{sum_by-cons}
+use Rattle.std.proofs.lemmas.List.Sums.{length-filter}
 use Rattle.std.proofs.lemmas.Option.{slice_get-get_or}
 use Rattle.serde_json.specs.Data.{string, object, Members, member}
 use Rattle.serde_json.specs.Find.{as_i64, of_integer}
@@ -10,17 +9,20 @@ use Rattle.key_table.specs.declared.key.Kind.TheVariants as kind
 use Rattle.key_table.specs.declared.slot.Slot.{Slot}
 use Rattle.key_table.specs.declared.slot.Datum.{Datum}
 use Rattle.key_table.specs.declared.slot.Datum.TheVariants.{Variant, Number, Text}
-use Rattle.key_table.specs.Names.{are_distinct}
 use Rattle.key_table.specs.Slots.{slot_cmp, at}
-use Rattle.key_table.specs.Tables.{Domain, variants, bounds, text, metadata, Table, kind_of, domain_at, variants_at, find_variant, bounds_at, has_sub, allows, datum_fits}
-use Rattle.key_table.specs.Payments.{Entries, AreAscending, value_of, with_value, is_legal}
+use Rattle.key_table.specs.Tables.{Domain, variants, bounds, text, metadata, Table, kind_of, domain_at, variants_at, find_variant, has_sub, allows, is_table, datum_fits}
+use Rattle.key_table.specs.Options.{is_option}
+use Rattle.key_table.specs.Payments.{Entries, AreAscending, value_of, with_value, under, is_legal}
+use Rattle.key_table.proofs.OptionLemmas.{same_slot, legal_option}
+use Rattle.key_table.proofs.Sorted.{slot_cmp_total, sorted_insert, value_put as value_of-put, equal}
+use Rattle.key_table.proofs.UnderKeys.{all_under, under_keys, under_legal, value_under}
 use Rattle.json_shape.specs.declared.error.ShapeError.{ShapeError}
-use Rattle.payment_reader.specs.Cursors.{HasBits}
 use Rattle.payment_reader.specs.Reading.{members_put, sub_put, subs_put, members_count, texts_put, value_put}
-use Rattle.payment_reader.specs.Written.{datum_data, sub_added, subs_of, is_metadata}
-use Rattle.payment_reader.proofs.Distinct.{variant_found}
-use Rattle.payment_reader.proofs.Entries.{Entry, AreThere, value_put as value_of-put, ascending_put, value_here}
-use Rattle.payment_reader.proofs.Slots.{same_slot, is-equal}
+use Rattle.payment_reader.specs.WellMade.{HasBits}
+use Rattle.payment_reader.specs.Written.{datum_data, text_added, texts_of, is_metadata}
+use Rattle.payment_reader.proofs.Entries.{Entry, AreThere, all_there, value_here}
+use Rattle.payment_reader.proofs.Keys.{variant_found}
+use Rattle.payment_reader.proofs.Texts.{AreUnder}
 
 -- At each slot q has what p has or what es has.
 abbrev pub Follows : Entries → Entries → Entries → Type 0
@@ -44,7 +46,7 @@ value_put-here p s d = value_of-put p s s d ∙ value_here (s, d) p
 pub follows_put : (es p : Entries) (s : Slot) (d : Datum) → value_of s es ≡ Some d → Follows es p (with_value p s d)
 follows_put es p s d there = λ t.
     elim (cond_cases (is_eq (slot_cmp t s)) (Some d) (value_of t p)) [
-      | inl h ↦ (let same : t ≡ s = same_slot t s (is-equal (slot_cmp t s) h.0) in
+      | inl h ↦ (let same : t ≡ s = same_slot t s (equal (slot_cmp t s) h.0) in
           let P : Slot → Type 0 = λ x. value_of x es ≡ Some d in
           inr (value_of-put p s t d ∙ h.1 ∙ sym (subst P (sym same) there)))
       | inr h ↦ inl (value_of-put p s t d ∙ h.1)
@@ -70,7 +72,7 @@ reads_none es p key = record {
 pub head_or_rest : (e : Entry) (part : Entries) (t : Slot) (v : Datum) → value_of t (e ∷ part) ≡ Some v → ((t ≡ e.0) × (e.1 ≡ v)) ⊎ (value_of t part ≡ Some v)
 head_or_rest e part t v is =
     elim (cond_cases (is_eq (slot_cmp t e.0)) (Some e.1) (value_of t part)) [
-      | inl h ↦ (let some : Some e.1 ≡ Some v = sym h.1 ∙ is in let same : e.1 ≡ v = cc in inl (same_slot t e.0 (is-equal (slot_cmp t e.0) h.0), same))
+      | inl h ↦ (let some : Some e.1 ≡ Some v = sym h.1 ∙ is in let same : e.1 ≡ v = cc in inl (same_slot t e.0 (equal (slot_cmp t e.0) h.0), same))
       | inr h ↦ inr (sym h.1 ∙ is)
     ]
 
@@ -87,19 +89,28 @@ reads_more es part p e key r r' there is reads =
             subst P (sym h.0) (stays es q reads.after reads.follows e.0 e.1 there (value_put-here p e.0 e.1) ∙ ap (λ (d : Datum). Some d) h.1))
         | inr h ↦ reads.done t v same h
       ];
-      ascending = λ up. reads.ascending (ascending_put p e.0 e.1 up);
+      ascending = λ up. reads.ascending (sorted_insert slot_cmp_total p e.0 e.1 up);
     }
 
-reads_skip : (es part p : Entries) (e : Entry) (key : ℕ) (r r' : Result Entries ShapeError) → (e.0.key ≡ key → ⊥) → r ≡ r' → Reads es part p key r' → Reads es (e ∷ part) p key r
-reads_skip es part p e key r r' other is reads = record {
+-- what the entries under a key have is what all have there
+reads_under : (es p : Entries) (key : ℕ) (r : Result Entries ShapeError) → Reads es (under key es) p key r → Reads es es p key r
+reads_under es p key r reads = record {
   after = reads.after;
-  is = is ∙ reads.is;
+  is = reads.is;
   follows = reads.follows;
-  done = λ t v same found. elim (head_or_rest e part t v found) [ inl h ↦ absurd (other (ap (λ (s : Slot). s.key) (sym h.0) ∙ same)) | inr h ↦ reads.done t v same h ];
+  done = λ t v same found.
+      let P : ℕ → Type 0 = λ k. value_of t (under k es) ≡ value_of t es in
+      reads.done t v same (subst P same (value_under t es) ∙ found);
   ascending = reads.ascending;
 }
 
 -- ---- what fits
+
+-- what stands at a slot of a legal payment fits there
+pub legal_value : (table : Table) (es : Entries) (slot : Slot) (datum : Datum) → is_legal table es ≡ true → value_of slot es ≡ Some datum → datum_fits table slot datum ≡ true
+legal_value table es slot datum legal is =
+    let P : Option Datum → Type 0 = λ o. is_option table slot o ≡ true in
+    subst P is (legal_option table es slot legal)
 
 pub fits_parts : (table : Table) (s : Slot) (v : Datum) (dom : Domain) → datum_fits table s v ≡ true → domain_at s.key table ≡ Some dom → (has_sub dom s.sub ≡ true) × (allows dom v ≡ true)
 fits_parts table s v dom fits is = let e : (has_sub dom s.sub && allows dom v) ≡ true = rw is at fits in and_parts (has_sub dom s.sub) (allows dom v) e
@@ -115,54 +126,50 @@ fits_domain table s v fits =
 
 -- ---- the texts of a metadata key
 
-sub_put-text : (key : ℕ) (path name t : List ℕ) (p : Entries) → leb (length name) 255 ≡ true → leb (length t) 1024 ≡ true → sub_put key path name (string t) p ≡ Ok (with_value p (at key (Some name)) (Text t))
-sub_put-text key path name t p short few = rw (short, few)
+sub_put-text : (table : Table) (key : ℕ) (path name t : List ℕ) (p : Entries) → domain_at key table ≡ Some metadata → leb (length name) 255 ≡ true → leb (length t) 1024 ≡ true
+    → sub_put table key path name (string t) p ≡ Ok (with_value p (at key (Some name)) (Text t))
+sub_put-text table key path name t p dom short few = rw (dom, short, few)
 
-sub_reads : (key : ℕ) (path : List ℕ) (s : Option (List ℕ)) (v : Datum) (ms : Members) (p : Entries) → has_sub metadata s ≡ true → allows metadata v ≡ true
-    → subs_put key path (sub_added member true s v ms) p ≡ subs_put key path ms (with_value p (at key s) v)
+text_reads : (table : Table) (key : ℕ) (path : List ℕ) (s : Option (List ℕ)) (v : Datum) (ms : Members) (p : Entries) → domain_at key table ≡ Some metadata → has_sub metadata s ≡ true → allows metadata v ≡ true
+    → subs_put table key path (text_added member s v ms) p ≡ subs_put table key path ms (with_value p (at key s) v)
 unfolding members_put
-sub_reads key path None v ms p sub ok = absurd (false≢true sub)
-sub_reads key path (Some name) (Variant n) ms p sub ok = absurd (false≢true ok)
-sub_reads key path (Some name) (Number z) ms p sub ok = absurd (false≢true ok)
-sub_reads key path (Some name) (Text t) ms p sub ok = rw (sub_put-text key path name t p sub ok)
+text_reads table key path None v ms p dom sub ok = absurd (false≢true sub)
+text_reads table key path (Some name) (Variant n) ms p dom sub ok = absurd (false≢true ok)
+text_reads table key path (Some name) (Number z) ms p dom sub ok = absurd (false≢true ok)
+text_reads table key path (Some name) (Text t) ms p dom sub ok = rw (sub_put-text table key path name t p dom sub ok)
 
-pub subs_read : (table : Table) (es : Entries) (key : ℕ) (path : List ℕ) → domain_at key table ≡ Some metadata → (part : Entries) → AreThere es part → is_legal table part ≡ true → (p : Entries)
-    → Reads es part p key (subs_put key path (subs_of key part) p)
+part_reads : (table : Table) (es : Entries) (key : ℕ) (path : List ℕ) → domain_at key table ≡ Some metadata → (part : Entries) → AreUnder key part → AreThere es part → is_legal table part ≡ true → (p : Entries)
+    → Reads es part p key (subs_put table key path (texts_of part) p)
 unfolding members_put
-subs_read table es key path dom [] there legal p = reads_none es p key
-subs_read table es key path dom (e ∷ part) there legal p =
+part_reads table es key path dom [] all there legal p = reads_none es p key
+part_reads table es key path dom (e ∷ part) all there legal p =
     let parts = and_parts (datum_fits table e.0 e.1) (is_legal table part) legal in
-    let goal : Type 0 = Reads es (e ∷ part) p key (subs_put key path (subs_of key (e ∷ part)) p) in
-    let step : (b : Bool) → eqb e.0.key key ≡ b → goal =
-    λ b. elim b as (λ b. eqb e.0.key key ≡ b → goal) [
-      | true ↦ (λ is.
-          let same = eqb-true e.0.key key is in
-          let P : ℕ → Type 0 = λ k. domain_at k table ≡ Some metadata in
-          let fits = fits_parts table e.0 e.1 metadata parts.0 (subst P (sym same) dom) in
-          let Q : ℕ → Type 0 = λ k. subs_put key path (subs_of key (e ∷ part)) p ≡ subs_put key path (subs_of key part) (with_value p (at k e.0.sub) e.1) in
-          let one : subs_put key path (subs_of key (e ∷ part)) p ≡ subs_put key path (subs_of key part) (with_value p (at key e.0.sub) e.1) =
-          ap (λ b. subs_put key path (sub_added member b e.0.sub e.1 (subs_of key part)) p) is ∙ sub_reads key path e.0.sub e.1 (subs_of key part) p fits.0 fits.1 in
-          reads_more es part p e key _ _ there.0 (subst Q (sym same) one) (subs_read table es key path dom part there.1 parts.1 (with_value p e.0 e.1)))
-      | false ↦ (λ is. reads_skip es part p e key _ _ (eqb-false e.0.key key is) (ap (λ b. subs_put key path (sub_added member b e.0.sub e.1 (subs_of key part)) p) is)
-          (subs_read table es key path dom part there.1 parts.1 p))
-    ] in
-    step (eqb e.0.key key) refl
+    let P : ℕ → Type 0 = λ k. domain_at k table ≡ Some metadata in
+    let fits = fits_parts table e.0 e.1 metadata parts.0 (subst P (sym all.0) dom) in
+    let Q : ℕ → Type 0 = λ k. subs_put table key path (texts_of (e ∷ part)) p ≡ subs_put table key path (texts_of part) (with_value p (at k e.0.sub) e.1) in
+    let one = text_reads table key path e.0.sub e.1 (texts_of part) p dom fits.0 fits.1 in
+    reads_more es part p e key _ _ there.0 (subst Q (sym all.0) one) (part_reads table es key path dom part all.1 there.1 parts.1 (with_value p e.0 e.1))
 
-added_count : (b : Bool) (s : Option (List ℕ)) (v : Datum) (ms : Members) (n : ℕ) → members_count ms ≤ n → members_count (sub_added member b s v ms) ≤ cond b 1 0 + n
-added_count false s v ms n h = omega arith
-added_count true None v ms n h = omega arith
-added_count true (Some name) (Variant k) ms n h = omega arith
-added_count true (Some name) (Number z) ms n h = omega arith
-added_count true (Some name) (Text t) ms n h = omega arith
+pub texts_read : (table : Table) (es : Entries) (key : ℕ) (path : List ℕ) → domain_at key table ≡ Some metadata → AreAscending es → is_legal table es ≡ true → (p : Entries)
+    → Reads es es p key (subs_put table key path (texts_of (under key es)) p)
+texts_read table es key path dom up legal p =
+    reads_under es p key _ (part_reads table es key path dom (under key es) (under_keys key es) (all_under (λ (e : Entry). value_of e.0 es ≡ Some e.1) key es (all_there es up)) (under_legal table key es legal) p)
 
-pub subs_count : (key : ℕ) (es : Entries) → members_count (subs_of key es) ≤ count_by (λ (e : Entry). eqb e.0.key key) es
-subs_count key [] = omega arith
-subs_count key (e ∷ es) =
-    let P : ℕ → Type 0 = λ n. members_count (subs_of key (e ∷ es)) ≤ n in
-    subst P (sym (sum_by-cons (λ (e : Entry). cond (eqb e.0.key key) 1 0) e es)) (added_count (eqb e.0.key key) e.0.sub e.1 (subs_of key es) (count_by (λ (e : Entry). eqb e.0.key key) es) (subs_count key es))
+added_count : (s : Option (List ℕ)) (v : Datum) (ms : Members) (n : ℕ) → members_count ms ≤ n → members_count (text_added member s v ms) ≤ 1 + n
+added_count None v ms n h = omega arith
+added_count (Some name) (Variant k) ms n h = omega arith
+added_count (Some name) (Number z) ms n h = omega arith
+added_count (Some name) (Text t) ms n h = omega arith
 
-pub texts_put-is : (key : ℕ) (path : List ℕ) (ms : Members) (p : Entries) → members_count ms ≤ 4096 → texts_put key path (object ms) p ≡ subs_put key path ms p
-texts_put-is key path ms p few = rw (le-leb (members_count ms) 4096 few)
+texts_count : (es : Entries) → members_count (texts_of es) ≤ length es
+texts_count [] = omega arith
+texts_count (e ∷ es) = omega (arith, added_count e.0.sub e.1 (texts_of es) (length es) (texts_count es))
+
+pub texts_put-few : (table : Table) (es : Entries) (key : ℕ) (path : List ℕ) (p : Entries) → count_by (λ (e : Entry). eqb e.0.key key) es ≤ 4096 → texts_put table key path (object (texts_of (under key es))) p ≡ subs_put table key path (texts_of (under key es)) p
+texts_put-few table es key path p few =
+    let n = texts_count (under key es) in
+    let m = length-filter (λ (e : Entry). eqb e.0.key key) es in
+    rw (le-leb (members_count (texts_of (under key es))) 4096 (omega arith))
 
 -- ---- the value of another key
 
@@ -178,33 +185,33 @@ no_sub metadata s other h = absurd (true≢false other)
 abbrev pub Right : Table → ℕ → Domain → List ℕ → Datum → Entries → Type 0
 Right table key dom path v p = value_put table key (kind_of dom) path (datum_data (variants_at key table) v) p ≡ Ok (with_value p (at key None) v)
 
-variant_reads : (table : Table) (key n : ℕ) (path : List ℕ) (p : Entries) → are_distinct (variants_at key table) ≡ true → n < length (variants_at key table)
+variant_right : (table : Table) (key n : ℕ) (path : List ℕ) (p : Entries) → is_table table ≡ true → n < length (variants_at key table)
     → value_put table key kind.Enum path (datum_data (variants_at key table) (Variant n)) p ≡ Ok (with_value p (at key None) (Variant n))
-variant_reads table key n path p distinct within =
+variant_right table key n path p made within =
     let name : List ℕ = get_or (variants_at key table) n [] in
     let there : slice_get (variants_at key table) n ≡ Some name = slice_get-get_or (variants_at key table) n [] within in
-    let found : find_variant key name table ≡ Some n = variant_found table key n name distinct there in
+    let found : find_variant key name table ≡ Some n = variant_found table key n name made there in
     rw (there, found)
 
-number_reads : (table : Table) (key : ℕ) (z l g : ℤ) (path : List ℕ) (names : List (List ℕ)) (p : Entries) → bounds_at key table ≡ Some (l, g) → (int_le l z && int_le z g) ≡ true → as_i64 (of_integer z) ≡ Some z
+number_right : (table : Table) (key : ℕ) (z : ℤ) (path : List ℕ) (names : List (List ℕ)) (p : Entries) → datum_fits table (at key None) (Number z) ≡ true → as_i64 (of_integer z) ≡ Some z
     → value_put table key kind.Number path (datum_data names (Number z)) p ≡ Ok (with_value p (at key None) (Number z))
-number_reads table key z l g path names p is between bits = rw (bits, is, between)
+number_right table key z path names p fits bits = rw (bits, fits)
 
-text_reads : (table : Table) (key : ℕ) (t path : List ℕ) (names : List (List ℕ)) (p : Entries) → leb (length t) 1024 ≡ true
+text_right : (table : Table) (key : ℕ) (t path : List ℕ) (names : List (List ℕ)) (p : Entries) → datum_fits table (at key None) (Text t) ≡ true
     → value_put table key kind.Text path (datum_data names (Text t)) p ≡ Ok (with_value p (at key None) (Text t))
-text_reads table key t path names p few = rw (few)
+text_right table key t path names p fits = rw fits
 
-pub right : (table : Table) (key : ℕ) (dom : Domain) (path : List ℕ) (v : Datum) (p : Entries) → domain_at key table ≡ Some dom → is_metadata (Some (kind_of dom)) ≡ false
-    → ((n : ℕ) → n < length (variants_at key table) → are_distinct (variants_at key table) ≡ true) → allows dom v ≡ true → HasBits (Some v) → Right table key dom path v p
-right table key (variants names) path (Variant n) p is other distinct ok bits =
+pub right : (table : Table) (key : ℕ) (dom : Domain) (path : List ℕ) (v : Datum) (p : Entries) → is_table table ≡ true → domain_at key table ≡ Some dom → is_metadata (Some (kind_of dom)) ≡ false
+    → allows dom v ≡ true → datum_fits table (at key None) v ≡ true → HasBits (Some v) → Right table key dom path v p
+right table key (variants names) path (Variant n) p made is other ok fits bits =
     let within : n < length (variants_at key table) = rw is (ltb-true n (length names) ok) in
-    variant_reads table key n path p (distinct n within) within
-right table key (variants names) path (Number z) p is other distinct ok bits = absurd (false≢true ok)
-right table key (variants names) path (Text t) p is other distinct ok bits = absurd (false≢true ok)
-right table key (bounds l g) path (Variant n) p is other distinct ok bits = absurd (false≢true ok)
-right table key (bounds l g) path (Number z) p is other distinct ok bits = let ends : bounds_at key table ≡ Some (l, g) = rw is in number_reads table key z l g path (variants_at key table) p ends ok bits
-right table key (bounds l g) path (Text t) p is other distinct ok bits = absurd (false≢true ok)
-right table key text path (Variant n) p is other distinct ok bits = absurd (false≢true ok)
-right table key text path (Number z) p is other distinct ok bits = absurd (false≢true ok)
-right table key text path (Text t) p is other distinct ok bits = text_reads table key t path (variants_at key table) p ok
-right table key metadata path v p is other distinct ok bits = absurd (true≢false other)
+    variant_right table key n path p made within
+right table key (variants names) path (Number z) p made is other ok fits bits = absurd (false≢true ok)
+right table key (variants names) path (Text t) p made is other ok fits bits = absurd (false≢true ok)
+right table key (bounds l g) path (Variant n) p made is other ok fits bits = absurd (false≢true ok)
+right table key (bounds l g) path (Number z) p made is other ok fits bits = number_right table key z path (variants_at key table) p fits bits
+right table key (bounds l g) path (Text t) p made is other ok fits bits = absurd (false≢true ok)
+right table key text path (Variant n) p made is other ok fits bits = absurd (false≢true ok)
+right table key text path (Number z) p made is other ok fits bits = absurd (false≢true ok)
+right table key text path (Text t) p made is other ok fits bits = text_right table key t path (variants_at key table) p fits
+right table key metadata path v p made is other ok fits bits = absurd (true≢false other)

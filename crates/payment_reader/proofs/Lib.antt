@@ -1,9 +1,8 @@
-pub mod Distinct
 pub mod Entries
 pub mod Follows
+pub mod Keys
+pub mod Legal
 pub mod Members
-pub mod Names
-pub mod Places
 pub mod ReadsBack
-pub mod Slots
+pub mod Texts
 pub mod WrittenLemmas

@@ -8,6 +8,7 @@ use Rattle.serde_json.specs.View.{view, members_view}
 use Rattle.serde_json.specs.declared.value.Value.{Value}
 use Rattle.key_table.specs.declared.stop.Stop.{Stop}
 use Rattle.key_table.specs.Answers.{Fails, fails_through}
+use Rattle.key_table.specs.Tables.{Table}
 use Rattle.key_table.specs.Payments.{Entries}
 use Rattle.json_shape.specs.declared.error.ShapeError.{ShapeError}
 use Rattle.json_shape.specs.Paths.{fault}
@@ -37,8 +38,8 @@ members_count-view : (es : Pairs) → members_count (members_view es) ≡ length
 members_count-view [] = refl
 members_count-view (e ∷ es) = ap suc (members_count-view es)
 
-pub too_many : (key : ℕ) (path : List ℕ) (d : Data) (es : Pairs) (payment : Entries) → as_object d ≡ Some (members_view es) → 4096 < length es → texts_put key path d payment ≡ Err (fault 5 path)
-too_many key path d es payment is many = rw (is, members_count-view, lt-leb _ _ many)
+pub too_many : (table : Table) (key : ℕ) (path : List ℕ) (d : Data) (es : Pairs) (payment : Entries) → as_object d ≡ Some (members_view es) → 4096 < length es → texts_put table key path d payment ≡ Err (fault 5 path)
+too_many table key path d es payment is many = rw (is, members_count-view, lt-leb _ _ many)
 
-pub few_enough : (key : ℕ) (path : List ℕ) (d : Data) (es : Pairs) (payment : Entries) → as_object d ≡ Some (members_view es) → length es ≤ 4096 → texts_put key path d payment ≡ subs_put key path (members_view es) payment
-few_enough key path d es payment is few = rw (is, members_count-view, le-leb _ _ few)
+pub few_enough : (table : Table) (key : ℕ) (path : List ℕ) (d : Data) (es : Pairs) (payment : Entries) → as_object d ≡ Some (members_view es) → length es ≤ 4096 → texts_put table key path d payment ≡ subs_put table key path (members_view es) payment
+few_enough table key path d es payment is few = rw (is, members_count-view, le-leb _ _ few)

@@ -4,7 +4,7 @@ use Rattle.std.specs.Str.{is_utf8}
 use Rattle.std.specs.Ordering.{match_ordering}
 use Rattle.std.specs.List.Sorted.{IsStrictlySortedBy}
 use Rattle.std.specs.Cmp.Lexicographic.{slice_cmp}
-use Rattle.std.proofs.lemmas.Bool.{cases_eq, eq-eqb, false≢true, cond-true}
+use Rattle.std.proofs.lemmas.Bool.{cases_Bool, cases_eq, false≢true, cond-true}
 use Rattle.std.proofs.lemmas.Map.Lookups.{exact_bytes}
 use Rattle.std.proofs.lemmas.Option.{slice_get-get_or, slice_get_within}
 use Rattle.std.proofs.lemmas.Str.{is_utf8-from_IsUtf8}
@@ -18,19 +18,19 @@ use Rattle.key_table.specs.declared.slot.Datum.TheVariants.{Variant, Number, Tex
 use Rattle.key_table.specs.Names.{are_distinct}
 use Rattle.key_table.specs.Slots.{at}
 use Rattle.key_table.specs.Tables.{Domain, variants, bounds, text, metadata, Key, Table, is_table, kind_of, name_at, names_in, domain_at, kind_at, variants_at, find_key, has_sub, allows}
-use Rattle.key_table.specs.Payments.{Entries, AreAscending, value_of, with_value, is_legal}
+use Rattle.key_table.specs.Payments.{Entries, AreAscending, value_of, with_value, under, is_legal}
+use Rattle.key_table.proofs.Sorted.{slot_cmp_total, sorted_insert}
+use Rattle.key_table.proofs.UnderKeys.{value_under}
 use Rattle.json_shape.specs.declared.error.ShapeError.{ShapeError}
 use Rattle.json_shape.specs.Paths.{name_step, fault}
 use Rattle.key_table.specs.Answers.{or_fault}
 use Rattle.json_shape.specs.Shapes.{json_of}
-use Rattle.payment_reader.specs.Cursors.{HasBits, HasBitsAt, IsWellMade}
 use Rattle.payment_reader.specs.Reading.{members_put, texts_put, value_put, field_put, fields_put, payment_in, payment_of}
-use Rattle.payment_reader.specs.Written.{datum_data, sub_added, subs_of, object_of, is_metadata, data_at, with_field, fields_of, payment_data, HasFewSubs}
-use Rattle.payment_reader.proofs.Distinct.{key_found}
-use Rattle.payment_reader.proofs.Entries.{all_there, ascending_put, equal_entries}
-use Rattle.payment_reader.proofs.Follows.{Follows, Reads, value_put-here, follows_put, follows_on, stays, head_or_rest, fits_parts, fits_domain, subs_read, subs_count, texts_put-is, no_sub, right}
-use Rattle.payment_reader.proofs.Names.{table-names, are_names-distinct, variants_named}
-use Rattle.payment_reader.proofs.Slots.{legal_value}
+use Rattle.payment_reader.specs.WellMade.{HasBits, HasBitsAt, IsWellMade}
+use Rattle.payment_reader.specs.Written.{datum_data, text_added, texts_of, object_of, is_metadata, data_at, with_field, fields_of, payment_data, HasFewSubs}
+use Rattle.payment_reader.proofs.Entries.{equal_entries}
+use Rattle.payment_reader.proofs.Follows.{Follows, Reads, value_put-here, follows_put, follows_on, stays, head_or_rest, fits_parts, fits_domain, legal_value, texts_read, texts_put-few, no_sub, right}
+use Rattle.payment_reader.proofs.Keys.{option_map_some, domain_within, name_domain, kind_is, found_by_name}
 
 -- A payment, and its table, of which what is written reads back.
 pub record IsWritable (table : Table) (es : Entries) : Type 0 where
@@ -39,38 +39,6 @@ pub record IsWritable (table : Table) (es : Entries) : Type 0 where
   pub bits : (key : ℕ) → key < length table → HasBitsAt key table es
   pub legal : is_legal table es ≡ true
   pub few : HasFewSubs es
-
--- ---- the keys of a table
-
-domain_within : (table : Table) (key : ℕ) (dom : Domain) → domain_at key table ≡ Some dom → (key < length table) × ((name : List ℕ) × (name_at key table ≡ Some name))
-domain_within table key dom is =
-    let goal : Type 0 = (key < length table) × ((name : List ℕ) × (name_at key table ≡ Some name)) in
-    let step : (o : Option Key) → slice_get table key ≡ o → goal =
-    λ o. elim o as (λ o. slice_get table key ≡ o → goal) [
-      | None ↦ (λ none. let e : domain_at key table ≡ None = rw none in let no : ⊥ = cc in absurd no)
-      | Some k ↦ (λ there. let named : name_at key table ≡ Some k.name = rw there in (slice_get_within table key k there, (k.name, named)))
-    ] in
-    step (slice_get table key) refl
-
-name_domain : (table : Table) (key : ℕ) (name : List ℕ) → name_at key table ≡ Some name → (dom : Domain) × (domain_at key table ≡ Some dom)
-name_domain table key name is =
-    let goal : Type 0 = (dom : Domain) × (domain_at key table ≡ Some dom) in
-    let step : (o : Option Key) → slice_get table key ≡ o → goal =
-    λ o. elim o as (λ o. slice_get table key ≡ o → goal) [
-      | None ↦ (λ none. let e : name_at key table ≡ None = rw none in let no : ⊥ = cc in absurd no)
-      | Some k ↦ (λ there. let domain : domain_at key table ≡ Some k.domain = rw there in (k.domain, domain))
-    ] in
-    step (slice_get table key) refl
-
-found_by_name : (table : Table) (key : ℕ) (name : List ℕ) → is_table table ≡ true → name_at key table ≡ Some name → find_key name table ≡ Some key
-found_by_name table key name made is = key_found table key name (are_names-distinct (names_in table) (table-names table made)) is
-
-distinct_variants : (table : Table) (key n : ℕ) → is_table table ≡ true → n < length (variants_at key table) → are_distinct (variants_at key table) ≡ true
-distinct_variants table key n made within =
-    are_names-distinct (variants_at key table) (variants_named table key n (get_or (variants_at key table) n []) made (slice_get-get_or (variants_at key table) n [] within))
-
-kind_is : (table : Table) (key : ℕ) (dom : Domain) → domain_at key table ≡ Some dom → kind_at key table ≡ Some (kind_of dom)
-kind_is table key dom is = rw is
 
 -- ---- one field
 
@@ -106,61 +74,47 @@ only_slot table es key dom legal domain other t v same there =
 plain_reads : (table : Table) (es : Entries) (key : ℕ) (dom : Domain) (path : List ℕ) (v : Datum) (p : Entries) → IsWritable table es → domain_at key table ≡ Some dom → is_metadata (Some (kind_of dom)) ≡ false
     → value_of (at key None) es ≡ Some v → Reads es es p key (value_put table key (kind_of dom) path (datum_data (variants_at key table) v) p)
 plain_reads table es key dom path v p w domain other there =
-    let fits = fits_parts table (at key None) v dom (legal_value table es (at key None) v w.legal there) domain in
+    let fits = legal_value table es (at key None) v w.legal there in
+    let parts = fits_parts table (at key None) v dom fits domain in
     let P : Option Datum → Type 0 = λ o. HasBits o in
     let bits : HasBits (Some v) = subst P there (w.bits key (domain_within table key dom domain).0 (ap is_metadata (kind_is table key dom domain) ∙ other)) in
     record {
       after = with_value p (at key None) v;
-      is = right table key dom path v p domain other (λ n within. distinct_variants table key n w.made within) fits.1 bits;
+      is = right table key dom path v p w.made domain other parts.1 fits bits;
       follows = follows_put es p (at key None) v there;
       done = λ t u same found.
           let slot : t ≡ at key None = only_slot table es key dom w.legal domain other t u same found in
           let Q : Slot → Type 0 = λ s. value_of s es ≡ Some u in
           let R : Slot → Type 0 = λ s. value_of s (with_value p (at key None) v) ≡ Some u in
           subst R (sym slot) (value_put-here p (at key None) v ∙ sym there ∙ subst Q slot found);
-      ascending = ascending_put p (at key None) v;
+      ascending = sorted_insert slot_cmp_total p (at key None) v;
     }
 
-texts_read : (table : Table) (es : Entries) (key : ℕ) (path : List ℕ) (p : Entries) → IsWritable table es → domain_at key table ≡ Some metadata → Reads es es p key (texts_put key path (object (subs_of key es)) p)
-texts_read table es key path p w domain =
-    let few = w.few key in
-    reads_as es es p key _ _ (texts_put-is key path (subs_of key es) p (omega (arith, subs_count key es, few))) (subs_read table es key path domain es (all_there es w.ascending) w.legal p)
+object_reads : (table : Table) (es : Entries) (key : ℕ) (path : List ℕ) (p : Entries) → IsWritable table es → domain_at key table ≡ Some metadata → Reads es es p key (texts_put table key path (object (texts_of (under key es))) p)
+object_reads table es key path p w domain = reads_as es es p key _ _ (texts_put-few table es key path p (w.few key)) (texts_read table es key path domain w.ascending w.legal p)
 
 plain_data : (table : Table) (es : Entries) (key : ℕ) (d : Data) → is_metadata (kind_at key table) ≡ false → data_at key table es ≡ Some d → (v : Datum) × (value_of (at key None) es ≡ Some v) × (datum_data (variants_at key table) v ≡ d)
-plain_data table es key d other is =
-    let goal : Type 0 = (v : Datum) × (value_of (at key None) es ≡ Some v) × (datum_data (variants_at key table) v ≡ d) in
-    let plain : option_map (datum_data (variants_at key table)) (value_of (at key None) es) ≡ Some d = rw other at is in
-    let step : (o : Option Datum) → value_of (at key None) es ≡ o → goal =
-    λ o. elim o as (λ o. value_of (at key None) es ≡ o → goal) [
-      | None ↦ (λ none. let e : None ≡ Some d = rw none at plain in let no : ⊥ = cc in absurd no)
-      | Some v ↦ (λ there. let e : Some (datum_data (variants_at key table) v) ≡ Some d = rw there at plain in let same : datum_data (variants_at key table) v ≡ d = cc in (v, there, same))
-    ] in
-    step (value_of (at key None) es) refl
+plain_data table es key d other is = option_map_some (datum_data (variants_at key table)) (value_of (at key None) es) d (rw other at is) (λ v there same. (v, there, same))
 
-metadata_data : (table : Table) (es : Entries) (key : ℕ) (d : Data) → is_metadata (kind_at key table) ≡ true → data_at key table es ≡ Some d → object (subs_of key es) ≡ d
-metadata_data table es key d meta is = let e : object_of (subs_of key es) ≡ Some d = rw meta at is in object_is (subs_of key es) d e
+metadata_data : (table : Table) (es : Entries) (key : ℕ) (d : Data) → is_metadata (kind_at key table) ≡ true → data_at key table es ≡ Some d → object (texts_of (under key es)) ≡ d
+metadata_data table es key d meta is = let e : object_of (texts_of (under key es)) ≡ Some d = rw meta at is in object_is (texts_of (under key es)) d e
 
 field_reads : (table : Table) (es : Entries) (name : List ℕ) (key : ℕ) (dom : Domain) (d : Data) (p : Entries) → IsWritable table es → find_key name table ≡ Some key → domain_at key table ≡ Some dom → data_at key table es ≡ Some d
     → Reads es es p key (field_put table name d p)
 field_reads table es name key dom d p w found domain there =
-    let goal : Type 0 = Reads es es p key (field_put table name d p) in
     let kind_there = ap is_metadata (kind_is table key dom domain) in
-    let step : (b : Bool) → is_metadata (Some (kind_of dom)) ≡ b → goal =
-    λ b. elim b as (λ b. is_metadata (Some (kind_of dom)) ≡ b → goal) [
-      | true ↦ (λ meta.
-          let dom_is = is_meta dom meta in
+    let Q : Data → Type 0 = λ x. Reads es es p key (field_put table name x p) in
+    elim (cases_Bool (is_metadata (Some (kind_of dom)))) [
+      | inl meta ↦ (
           let P : Domain → Type 0 = λ x. domain_at key table ≡ Some x in
-          let domain' : domain_at key table ≡ Some metadata = subst P dom_is domain in
-          let Q : Data → Type 0 = λ x. Reads es es p key (field_put table name x p) in
+          let domain' : domain_at key table ≡ Some metadata = subst P (is_meta dom meta) domain in
           subst Q (metadata_data table es key d (kind_there ∙ meta) there)
-          (reads_as es es p key _ _ (field_is table name key metadata (object (subs_of key es)) p found domain' refl) (texts_read table es key (name_step [] name) p w domain')))
-      | false ↦ (λ other.
+          (reads_as es es p key _ _ (field_is table name key metadata (object (texts_of (under key es))) p found domain' refl) (object_reads table es key (name_step [] name) p w domain')))
+      | inr other ↦ (
           let v = plain_data table es key d (kind_there ∙ other) there in
-          let Q : Data → Type 0 = λ x. Reads es es p key (field_put table name x p) in
           subst Q v.2
           (reads_as es es p key _ _ (field_is table name key dom (datum_data (variants_at key table) v.0) p found domain (datum-null (variants_at key table) v.0)) (plain_reads table es key dom (name_step [] name) v.0 p w domain other v.1)))
-    ] in
-    step (is_metadata (Some (kind_of dom))) refl
+    ]
 
 -- ---- all fields
 
@@ -289,51 +243,44 @@ object_there : (ms : Members) → is_there ms ≡ true → object_of ms ≡ Some
 object_there no_members h = absurd (false≢true h)
 object_there (member name d ms) h = refl
 
-added_there : (b : Bool) (s : Option (List ℕ)) (v : Datum) (ms : Members) → is_there ms ≡ true → is_there (sub_added member b s v ms) ≡ true
-added_there false s v ms h = h
-added_there true None v ms h = h
-added_there true (Some name) (Variant n) ms h = h
-added_there true (Some name) (Number z) ms h = h
-added_there true (Some name) (Text t) ms h = refl
+added_there : (s : Option (List ℕ)) (v : Datum) (ms : Members) → is_there ms ≡ true → is_there (text_added member s v ms) ≡ true
+added_there None v ms h = h
+added_there (Some name) (Variant n) ms h = h
+added_there (Some name) (Number z) ms h = h
+added_there (Some name) (Text t) ms h = refl
 
-text_there : (s : Option (List ℕ)) (v : Datum) (ms : Members) → has_sub metadata s ≡ true → allows metadata v ≡ true → is_there (sub_added member true s v ms) ≡ true
+text_there : (s : Option (List ℕ)) (v : Datum) (ms : Members) → has_sub metadata s ≡ true → allows metadata v ≡ true → is_there (text_added member s v ms) ≡ true
 text_there None v ms sub ok = absurd (false≢true sub)
 text_there (Some name) (Variant n) ms sub ok = absurd (false≢true ok)
 text_there (Some name) (Number z) ms sub ok = absurd (false≢true ok)
 text_there (Some name) (Text t) ms sub ok = refl
 
-subs_there : (key : ℕ) (es : Entries) (t : Slot) (v : Datum) → t.key ≡ key → has_sub metadata t.sub ≡ true → allows metadata v ≡ true → value_of t es ≡ Some v → is_there (subs_of key es) ≡ true
-subs_there key [] t v same sub ok there = let no : ⊥ = cc in absurd no
-subs_there key (e ∷ es) t v same sub ok there =
+texts_there : (es : Entries) (t : Slot) (v : Datum) → has_sub metadata t.sub ≡ true → allows metadata v ≡ true → value_of t es ≡ Some v → is_there (texts_of es) ≡ true
+texts_there [] t v sub ok there = let no : ⊥ = cc in absurd no
+texts_there (e ∷ es) t v sub ok there =
     elim (head_or_rest e es t v there) [
       | inl h ↦ (
-          let here : eqb e.0.key key ≡ true = eq-eqb e.0.key key (ap (λ (s : Slot). s.key) (sym h.0) ∙ same) in
           let P : Slot → Type 0 = λ s. has_sub metadata s.sub ≡ true in
           let Q : Datum → Type 0 = λ d. allows metadata d ≡ true in
-          ap (λ b. is_there (sub_added member b e.0.sub e.1 (subs_of key es))) here ∙ text_there e.0.sub e.1 (subs_of key es) (subst P h.0 sub) (subst Q (sym h.1) ok))
-      | inr h ↦ added_there (eqb e.0.key key) e.0.sub e.1 (subs_of key es) (subs_there key es t v same sub ok h)
+          text_there e.0.sub e.1 (texts_of es) (subst P h.0 sub) (subst Q (sym h.1) ok))
+      | inr h ↦ added_there e.0.sub e.1 (texts_of es) (texts_there es t v sub ok h)
     ]
 
 something : (table : Table) (es : Entries) (t : Slot) (v : Datum) (dom : Domain) → is_legal table es ≡ true → value_of t es ≡ Some v → domain_at t.key table ≡ Some dom → (d : Data) × (data_at t.key table es ≡ Some d)
 something table es t v dom legal there domain =
-    let goal : Type 0 = (d : Data) × (data_at t.key table es ≡ Some d) in
     let kind_there = ap is_metadata (kind_is table t.key dom domain) in
-    let step : (b : Bool) → is_metadata (Some (kind_of dom)) ≡ b → goal =
-    λ b. elim b as (λ b. is_metadata (Some (kind_of dom)) ≡ b → goal) [
-      | true ↦ (λ meta.
+    elim (cases_Bool (is_metadata (Some (kind_of dom)))) [
+      | inl meta ↦ (
           let P : Domain → Type 0 = λ x. domain_at t.key table ≡ Some x in
           let fits = fits_parts table t v metadata (legal_value table es t v legal there) (subst P (is_meta dom meta) domain) in
-          let some : object_of (subs_of t.key es) ≡ Some (object (subs_of t.key es)) = object_there (subs_of t.key es) (subs_there t.key es t v refl fits.0 fits.1 there) in
-          let is : data_at t.key table es ≡ Some (object (subs_of t.key es)) = rw (kind_there ∙ meta) some in
-          (object (subs_of t.key es), is))
-      | false ↦ (λ other.
-          let slot = only_slot table es t.key dom legal domain other t v refl there in
+          let ms = texts_of (under t.key es) in
+          let some : object_of ms ≡ Some (object ms) = object_there ms (texts_there (under t.key es) t v fits.0 fits.1 (value_under t es ∙ there)) in
+          (object ms, rw (kind_there ∙ meta) some))
+      | inr other ↦ (
           let Q : Slot → Type 0 = λ s. value_of s es ≡ Some v in
-          let here : value_of (at t.key None) es ≡ Some v = subst Q slot there in
-          let is : data_at t.key table es ≡ Some (datum_data (variants_at t.key table) v) = rw (kind_there ∙ other, here) in
-          (datum_data (variants_at t.key table) v, is))
-    ] in
-    step (is_metadata (Some (kind_of dom))) refl
+          let here : value_of (at t.key None) es ≡ Some v = subst Q (only_slot table es t.key dom legal domain other t v refl there) there in
+          (datum_data (variants_at t.key table) v, rw (kind_there ∙ other, here)))
+    ]
 
 none_ascend : AreAscending []
 unfolding IsStrictlySortedBy
@@ -378,16 +325,15 @@ depth_put k d no_members n p q = omega arith
 depth_put k d (member l e ms) n p q =
     depth_match (slice_cmp nat_cmp k l) (member k d (member l e ms)) (member l d ms) (member l e (put k d ms)) n (omega arith) (omega arith) (omega (arith, depth_put k d ms n p (omega arith)))
 
-depth_added : (b : Bool) (s : Option (List ℕ)) (v : Datum) (ms : Members) → members_depth ms ≤ 0 → members_depth (sub_added member b s v ms) ≤ 0
-depth_added false s v ms h = h
-depth_added true None v ms h = h
-depth_added true (Some name) (Variant n) ms h = h
-depth_added true (Some name) (Number z) ms h = h
-depth_added true (Some name) (Text t) ms h = omega arith
+depth_added : (s : Option (List ℕ)) (v : Datum) (ms : Members) → members_depth ms ≤ 0 → members_depth (text_added member s v ms) ≤ 0
+depth_added None v ms h = h
+depth_added (Some name) (Variant n) ms h = h
+depth_added (Some name) (Number z) ms h = h
+depth_added (Some name) (Text t) ms h = omega arith
 
-depth_subs : (key : ℕ) (es : Entries) → members_depth (subs_of key es) ≤ 0
-depth_subs key [] = omega arith
-depth_subs key (e ∷ es) = depth_added (eqb e.0.key key) e.0.sub e.1 (subs_of key es) (depth_subs key es)
+depth_texts : (es : Entries) → members_depth (texts_of es) ≤ 0
+depth_texts [] = omega arith
+depth_texts (e ∷ es) = depth_added e.0.sub e.1 (texts_of es) (depth_texts es)
 
 abbrev IsFlat : Option Data → Type 0
 IsFlat o = (d : Data) → o ≡ Some d → depth d ≤ 1
@@ -419,13 +365,8 @@ unfolding fields_of
 depth_fields zero table es = omega arith
 depth_fields (suc key) table es =
     depth_field (name_at key table) (data_at key table es) (fields_of key table es)
-    (flat_cond (is_metadata (kind_at key table)) (object_of (subs_of key es)) (option_map (datum_data (variants_at key table)) (value_of (at key None) es)) (flat_object (subs_of key es) (depth_subs key es)) (flat_datum (variants_at key table) (value_of (at key None) es)))
+    (flat_cond (is_metadata (kind_at key table)) (object_of (texts_of (under key es))) (option_map (datum_data (variants_at key table)) (value_of (at key None) es)) (flat_object (texts_of (under key es)) (depth_texts (under key es))) (flat_datum (variants_at key table) (value_of (at key None) es)))
     (depth_fields key table es)
 
 pub depth_payment : (table : Table) (es : Entries) → depth (payment_data table es) ≤ json.max_depth
 depth_payment table es = omega (arith, depth_fields (length table) table es)
-
--- what holds of a value holds of a call that gives it
-pub if_ok : {X E : Type 0} (r : Result X E) (x : X) (P : X → Type 0) → IfOk r (λ y. y ≡ x) → P x → IfOk r P
-if_ok (Ok y) x P is h = subst P (sym is) h
-if_ok (Err e) x P is h = tt

@@ -3,7 +3,8 @@ use Rattle.std.proofs.Common.{◌≡◌, ℕ, zero, suc, ◌+◌, List, [], ◌�
 use Rattle.std.specs.declared.alloc.Global.{Global}
 use Rattle.std.specs.Ordering.{match_ordering}
 use Rattle.std.specs.Cmp.Lexicographic.{slice_cmp}
-use Rattle.std.proofs.lemmas.Bool.{or_from, or_parts}
+use Rattle.std.proofs.lemmas.Bool.{cond_both, or_from, or_parts}
+use Rattle.std.proofs.lemmas.List.{nil_from_length}
 use Rattle.serde_json.specs.Data.{Data, object, Members, no_members, member, put}
 use Rattle.serde_json.specs.Written.{has_float, members_have_float}
 use Rattle.serde_json.specs.View.{view, members_view}
@@ -12,9 +13,9 @@ use Rattle.serde_json.proofs.Views.{view-Object}
 use Rattle.key_table.specs.declared.slot.Datum.{Datum}
 use Rattle.key_table.specs.declared.slot.Datum.TheVariants.{Variant, Number, Text}
 use Rattle.key_table.specs.Slots.{at}
-use Rattle.key_table.specs.Payments.{Entries, value_of}
+use Rattle.key_table.specs.Payments.{Entries, value_of, under}
 use Rattle.key_table.specs.Tables.{Table, name_at, kind_at, variants_at}
-use Rattle.payment_reader.specs.Written.{datum_data, sub_added, subs_of, object_of, is_metadata, data_at, with_field, fields_of, payment_data}
+use Rattle.payment_reader.specs.Written.{datum_data, text_added, texts_of, object_of, is_metadata, data_at, with_field, fields_of, payment_data}
 
 -- ---- the code's objects
 
@@ -33,6 +34,26 @@ pub fields_none : (table : Table) (es : Entries) → fields_of 0 table es ≡ no
 unfolding fields_of
 fields_none table es = refl
 
+-- without entries no key has a field
+none_at : (key : ℕ) (table : Table) → data_at key table [] ≡ None
+none_at key table = let P : Option Data → Type 0 = λ o. o ≡ None in cond_both (is_metadata (kind_at key table)) None None P (λ meta. refl) (λ other. refl)
+
+with_field-none : (name : Option (List ℕ)) (ms : Members) → with_field name None ms ≡ ms
+with_field-none None ms = refl
+with_field-none (Some name) ms = refl
+
+pub fields_of-nil : (n : ℕ) (table : Table) → fields_of n table [] ≡ no_members
+unfolding fields_of
+fields_of-nil zero table = refl
+fields_of-nil (suc key) table = ap (λ o. with_field (name_at key table) o (fields_of key table [])) (none_at key table) ∙ with_field-none (name_at key table) (fields_of key table []) ∙ fields_of-nil key table
+
+pub empty_data : (m : BTreeMap (String Global) Value) (table : Table) (es : Entries) → m.entries ≡ [] → length es ≡ 0 → view (Object m) ≡ payment_data table es
+empty_data m table es is none =
+    view-Object m
+    ∙ ap (λ (xs : List (String Global × Value)). object (members_view xs)) is
+    ∙ ap object (sym (fields_of-nil (length table) table))
+    ∙ ap (payment_data table) (sym (nil_from_length es none))
+
 -- ---- no number has a fraction
 
 has_float-datum : (names : List (List ℕ)) (d : Datum) → has_float (datum_data names d) ≡ false
@@ -41,16 +62,15 @@ has_float-datum names (Number (pos n)) = refl
 has_float-datum names (Number (negsuc n)) = refl
 has_float-datum names (Text t) = refl
 
-has_float-sub : (b : Bool) (s : Option (List ℕ)) (d : Datum) (ms : Members) → members_have_float ms ≡ false → members_have_float (sub_added member b s d ms) ≡ false
-has_float-sub false s d ms h = h
-has_float-sub true None d ms h = h
-has_float-sub true (Some name) (Variant n) ms h = h
-has_float-sub true (Some name) (Number z) ms h = h
-has_float-sub true (Some name) (Text t) ms h = h
+has_float-text : (s : Option (List ℕ)) (d : Datum) (ms : Members) → members_have_float ms ≡ false → members_have_float (text_added member s d ms) ≡ false
+has_float-text None d ms h = h
+has_float-text (Some name) (Variant n) ms h = h
+has_float-text (Some name) (Number z) ms h = h
+has_float-text (Some name) (Text t) ms h = h
 
-has_float-subs : (key : ℕ) (es : Entries) → members_have_float (subs_of key es) ≡ false
-has_float-subs key [] = refl
-has_float-subs key (e ∷ es) = has_float-sub (eqb e.0.key key) e.0.sub e.1 (subs_of key es) (has_float-subs key es)
+has_float-texts : (es : Entries) → members_have_float (texts_of es) ≡ false
+has_float-texts [] = refl
+has_float-texts (e ∷ es) = has_float-text e.0.sub e.1 (texts_of es) (has_float-texts es)
 
 -- a value that is there has no fraction
 abbrev IsWhole : Option Data → Type 0
@@ -69,8 +89,8 @@ whole-cond true x y p q = p
 whole-cond false x y p q = q
 
 whole-data : (key : ℕ) (table : Table) (es : Entries) → IsWhole (data_at key table es)
-whole-data key table es = whole-cond (is_metadata (kind_at key table)) (object_of (subs_of key es)) (option_map (datum_data (variants_at key table)) (value_of (at key None) es))
-    (whole-object (subs_of key es) (has_float-subs key es)) (whole-datum (variants_at key table) (value_of (at key None) es))
+whole-data key table es = whole-cond (is_metadata (kind_at key table)) (object_of (texts_of (under key es))) (option_map (datum_data (variants_at key table)) (value_of (at key None) es))
+    (whole-object (texts_of (under key es)) (has_float-texts (under key es))) (whole-datum (variants_at key table) (value_of (at key None) es))
 
 match-false : (o : Ordering) (x y z : Members) → members_have_float x ≡ false → members_have_float y ≡ false → members_have_float z ≡ false → members_have_float (match_ordering o x y z) ≡ false
 match-false Less x y z p q r = p

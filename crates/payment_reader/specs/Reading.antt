@@ -1,15 +1,16 @@
 -- The payment that JSON says, or its first fault. The members of an object are visited in ascending order of their names.
-use Rattle.std.specs.Prelude.{ℕ, suc, ℤ, int_le, nat_le, List, [], length, Bool, true, false, ◌&&◌, is_some, if◌then◌else◌, Option, Some, None, option_map, option_and_then, Result, Ok, Err, ⊤}
+use Rattle.std.specs.Prelude.{ℕ, suc, nat_le, List, [], is_some, if◌then◌else◌, Option, Some, None, option_map, option_and_then, Result, Ok, Err, ⊤}
 use Rattle.serde_json.specs.Data.{Data, Members, no_members, member}
 use Rattle.serde_json.specs.Find.{as_null, as_str, as_object}
 use Rattle.key_table.specs.declared.key.Kind.{Kind}
 use Rattle.key_table.specs.declared.key.Kind.TheVariants as kind
+use Rattle.key_table.specs.declared.slot.Slot.{Slot}
 use Rattle.key_table.specs.declared.slot.Datum.{Datum}
 use Rattle.key_table.specs.declared.slot.Datum.TheVariants.{Variant, Number, Text}
 use Rattle.key_table.specs.Answers.{◌>>=◌, or_fault, provided}
 use Rattle.key_table.specs.Slots.{at}
 use Rattle.key_table.specs.Payments.{Entries, with_value}
-use Rattle.key_table.specs.Tables.{Table, find_key, kind_at, find_variant, bounds_at}
+use Rattle.key_table.specs.Tables.{Table, find_key, kind_at, find_variant, slot_fits, datum_fits}
 use Rattle.json_shape.specs.declared.error.ShapeError.{ShapeError}
 use Rattle.json_shape.specs.Paths.{name_step, fault}
 use Rattle.json_shape.specs.Shapes.{json_of, whole_of}
@@ -20,30 +21,29 @@ unfoldable pub members_put : (List ℕ → Data → Entries → Result Entries S
 members_put put no_members payment = Ok payment
 members_put put (member name d ms) payment = put name d payment >>= members_put put ms
 
--- the string at a path, of at most 1,024 bytes
-abbrev pub text_in : List ℕ → Data → Result (List ℕ) ShapeError
-text_in path d = or_fault (fault 3 path) (as_str d) >>= λ s. provided (fault 9 path) (nat_le (length s) 1024) >>= λ _. Ok s
+-- the payment with a value at a slot, where it fits, and else the fault
+abbrev pub fitting_put : Table → ShapeError → Slot → Datum → Entries → Result Entries ShapeError
+fitting_put table unfit slot datum payment = provided unfit (datum_fits table slot datum) >>= λ _. Ok (with_value payment slot datum)
 
--- the variant of a key that the string at a path names
-abbrev pub variant_in : Table → ℕ → List ℕ → Data → Result Datum ShapeError
-variant_in table key path d = or_fault (fault 3 path) (as_str d) >>= λ word. or_fault (fault 7 path) (find_variant key word table) >>= λ n. Ok (Variant n)
+-- the payment with the variant of a key that the string at a path names
+abbrev pub variant_put : Table → ℕ → List ℕ → Data → Entries → Result Entries ShapeError
+variant_put table key path d payment = or_fault (fault 3 path) (as_str d) >>= λ word. or_fault (fault 7 path) (find_variant key word table) >>= λ n. Ok (with_value payment (at key None) (Variant n))
 
--- whether a number lies within bounds, where there are any
-abbrev pub is_between : Option (ℤ × ℤ) → ℤ → Bool
-is_between None z = false
-is_between (Some ends) z = int_le ends.0 z && int_le z ends.1
+-- the payment with the whole number at a path, which lies within the bounds of its key
+abbrev pub number_put : Table → ℕ → List ℕ → Data → Entries → Result Entries ShapeError
+number_put table key path d payment = whole_of path d >>= λ z. fitting_put table (fault 8 path) (at key None) (Number z) payment
 
--- the whole number at a path, within the bounds of a key
-abbrev pub number_in : Table → ℕ → List ℕ → Data → Result Datum ShapeError
-number_in table key path d = whole_of path d >>= λ z. provided (fault 8 path) (is_between (bounds_at key table) z) >>= λ _. Ok (Number z)
+-- the payment with the string at a path as the text of a slot, which has at most as many bytes as a text may have
+abbrev pub text_put : Table → Slot → List ℕ → Data → Entries → Result Entries ShapeError
+text_put table slot path d payment = or_fault (fault 3 path) (as_str d) >>= λ t. fitting_put table (fault 9 path) slot (Text t) payment
 
--- The payment with what a sub name of a metadata key says. A null puts nothing.
-abbrev pub sub_put : ℕ → List ℕ → List ℕ → Data → Entries → Result Entries ShapeError
-sub_put key path name d payment = provided (fault 9 (name_step path name)) (nat_le (length name) 255) >>= λ _. if is_some (as_null d) then Ok payment else (text_in (name_step path name) d >>= λ t. Ok (with_value payment (at key (Some name)) (Text t)))
+-- The payment with what a sub name of a metadata key says. The name is judged before its value, and a null puts nothing.
+abbrev pub sub_put : Table → ℕ → List ℕ → List ℕ → Data → Entries → Result Entries ShapeError
+sub_put table key path name d payment = provided (fault 9 (name_step path name)) (slot_fits table (at key (Some name))) >>= λ _. if is_some (as_null d) then Ok payment else text_put table (at key (Some name)) (name_step path name) d payment
 
 -- the payment with what each sub name in turn says
-abbrev pub subs_put : ℕ → List ℕ → Members → Entries → Result Entries ShapeError
-subs_put key path = members_put (sub_put key path)
+abbrev pub subs_put : Table → ℕ → List ℕ → Members → Entries → Result Entries ShapeError
+subs_put table key path = members_put (sub_put table key path)
 
 -- how many members an object has
 abbrev pub members_count : Members → ℕ
@@ -51,15 +51,15 @@ members_count no_members = 0
 members_count (member name d ms) = suc (members_count ms)
 
 -- the payment with the texts of a metadata key, of which there are at most 4,096
-abbrev pub texts_put : ℕ → List ℕ → Data → Entries → Result Entries ShapeError
-texts_put key path d payment = or_fault (fault 3 path) (as_object d) >>= λ ms. provided (fault 5 path) (nat_le (members_count ms) 4096) >>= λ _. subs_put key path ms payment
+abbrev pub texts_put : Table → ℕ → List ℕ → Data → Entries → Result Entries ShapeError
+texts_put table key path d payment = or_fault (fault 3 path) (as_object d) >>= λ ms. provided (fault 5 path) (nat_le (members_count ms) 4096) >>= λ _. subs_put table key path ms payment
 
 -- the payment with what the value of a key says, by the key's kind
 abbrev pub value_put : Table → ℕ → Kind → List ℕ → Data → Entries → Result Entries ShapeError
-value_put table key kind.Enum path d payment = variant_in table key path d >>= λ datum. Ok (with_value payment (at key None) datum)
-value_put table key kind.Number path d payment = number_in table key path d >>= λ datum. Ok (with_value payment (at key None) datum)
-value_put table key kind.Text path d payment = text_in path d >>= λ t. Ok (with_value payment (at key None) (Text t))
-value_put table key kind.Metadata path d payment = texts_put key path d payment
+value_put table key kind.Enum path d payment = variant_put table key path d payment
+value_put table key kind.Number path d payment = number_put table key path d payment
+value_put table key kind.Text path d payment = text_put table (at key None) path d payment
+value_put table key kind.Metadata path d payment = texts_put table key path d payment
 
 -- the number and the kind of the key with a name
 abbrev pub kind_named : List ℕ → Table → Option (ℕ × Kind)

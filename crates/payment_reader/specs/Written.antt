@@ -9,7 +9,7 @@ use Rattle.key_table.specs.declared.slot.Slot.{Slot}
 use Rattle.key_table.specs.declared.slot.Datum.{Datum}
 use Rattle.key_table.specs.declared.slot.Datum.TheVariants.{Variant, Number, Text}
 use Rattle.key_table.specs.Slots.{at}
-use Rattle.key_table.specs.Payments.{Entries, value_of}
+use Rattle.key_table.specs.Payments.{Entries, value_of, under}
 use Rattle.key_table.specs.Tables.{Table, name_at, kind_at, variants_at}
 
 -- a value as JSON, of a key with these variants
@@ -18,15 +18,15 @@ datum_data names (Variant n) = string (unwrap_or (slice_get names n) [])
 datum_data names (Number z) = number (of_integer z)
 datum_data names (Text t) = string t
 
--- the members with one more for an entry, by a way to add it, where the entry is a text under a sub name of the key in question
-abbrev pub sub_added : (List ℕ → Data → Members → Members) → Bool → Option (List ℕ) → Datum → Members → Members
-sub_added add true (Some sub) (Text t) ms = add sub (string t) ms
-sub_added add _ _ _ ms = ms
+-- the members with one more for an entry, by a way to add it, where the entry is a text under a sub name
+abbrev pub text_added : (List ℕ → Data → Members → Members) → Option (List ℕ) → Datum → Members → Members
+text_added add (Some sub) (Text t) ms = add sub (string t) ms
+text_added add _ _ ms = ms
 
--- the texts under a key by sub name, in the order of the entries
-abbrev pub subs_of : ℕ → Entries → Members
-subs_of key [] = no_members
-subs_of key (e ∷ es) = sub_added member (e.0.key == key) e.0.sub e.1 (subs_of key es)
+-- the texts by sub name, in the order of the entries
+abbrev pub texts_of : Entries → Members
+texts_of [] = no_members
+texts_of (e ∷ es) = text_added member e.0.sub e.1 (texts_of es)
 
 -- an object, where it has members
 abbrev pub object_of : Members → Option Data
@@ -39,7 +39,7 @@ is_metadata _ = false
 
 -- what is written for a key, where it has something
 abbrev pub data_at : ℕ → Table → Entries → Option Data
-data_at key table entries = if is_metadata (kind_at key table) then object_of (subs_of key entries) else option_map (datum_data (variants_at key table)) (value_of (at key None) entries)
+data_at key table entries = if is_metadata (kind_at key table) then object_of (texts_of (under key entries)) else option_map (datum_data (variants_at key table)) (value_of (at key None) entries)
 
 -- the members with what is written under a name, where there is something
 abbrev pub with_field : Option (List ℕ) → Option Data → Members → Members

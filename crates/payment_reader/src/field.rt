@@ -1,19 +1,16 @@
-ghost use Rattle.std.specs.Prelude.{◌≡◌, Some, []};
+ghost use Rattle.std.specs.Prelude.{◌≡◌, None};
 ghost use Rattle.serde_json.specs.View.{view};
-ghost use Rattle.key_table.specs.Answers.{Answers, StopsWith};
-ghost use Rattle.key_table.specs.Tables.{kind_at};
-ghost use Rattle.json_shape.specs.Paths.{name_step, fault};
-ghost use Rattle.payment_reader.specs.Reading.{text_in, variant_in, number_in, value_put, kind_named, field_put};
+ghost use Rattle.key_table.specs.Answers.{Answers};
+ghost use Rattle.key_table.specs.Slots.{at};
+ghost use Rattle.json_shape.specs.Paths.{fault};
+ghost use Rattle.payment_reader.specs.Reading.{fitting_put, variant_put, number_put, text_put, value_put, kind_named, field_put};
 
 use crate::error::{OUT_OF_BOUNDS, TEXT_LONG, UNKNOWN_KEY, UNKNOWN_VARIANT, WRONG_SHAPE};
 use crate::metadata::put_texts;
 use json_shape::{Path, ShapeError, whole};
-use key_table::{Datum, KeyTable, Kind, NoMemory, Payment, Slot, Stop, Text};
+use key_table::{Datum, KeyTable, Kind, Payment, Slot, Stop, Text};
 use serde_json::Value;
 use std::alloc::Global;
-
-// The most bytes of a text.
-pub(crate) const MOST_TEXT_BYTES: usize = 1024;
 
 /// Puts what a field of the object at the root says.
 pub(crate) fn put_field(
@@ -53,65 +50,92 @@ fn put_value(
     path: &Path,
     value: &Value,
 ) -> Result<(), Stop<ShapeError>>
-    requires { kind_at key table.now ≡ Some kind }
     ensures { Answers (λ u. payment.new) result (value_put table.now key kind path.now (view value.now) payment.old) }
 {
-    let datum = match kind {
-        Kind::Enum => variant(table, key, path, value)?,
-        Kind::Number => number(alloc, table, key, path, value)?,
-        Kind::Text => Datum::Text(text(alloc, path, value)?),
-        Kind::Metadata => return put_texts(alloc, payment, key, path, value),
-    };
-    payment.put(Slot { key, sub: None }, datum)?;
-    Ok(())
+    match kind {
+        Kind::Enum => put_variant(payment, table, key, path, value),
+        Kind::Number => put_number(alloc, payment, table, key, path, value),
+        Kind::Text => put_text(alloc, payment, table, key, path, value),
+        Kind::Metadata => put_texts(alloc, payment, table, key, path, value),
+    }
 }
 
-// The variant that the string at a path names.
-fn variant(
+// Puts the variant that the string at a path names.
+fn put_variant(
+    payment: &mut Payment,
     table: &KeyTable,
     key: u32,
     path: &Path,
     value: &Value,
-) -> Result<Datum, Stop<ShapeError>>
-    ensures { Answers (λ d. d) result (variant_in table.now key path.now (view value.now)) }
+) -> Result<(), Stop<ShapeError>>
+    ensures { Answers (λ u. payment.new) result (variant_put table.now key path.now (view value.now) payment.old) }
 {
     let Some(word) = value.as_str() else {
         return Err(path.stop(WRONG_SHAPE));
     };
-    match table.variant(key, word.as_bytes()) {
-        Some(variant) => Ok(Datum::Variant(variant)),
-        None => Err(path.stop(UNKNOWN_VARIANT)),
-    }
+    let Some(variant) = table.variant(key, word.as_bytes()) else {
+        return Err(path.stop(UNKNOWN_VARIANT));
+    };
+    payment.put(Slot { key, sub: None }, Datum::Variant(variant))?;
+    Ok(())
 }
 
-// The whole number at a path, within the bounds of its key.
-fn number(
+// Puts the whole number at a path, within the bounds of its key.
+fn put_number(
     alloc: Global,
+    payment: &mut Payment,
     table: &KeyTable,
     key: u32,
     path: &Path,
     value: &Value,
-) -> Result<Datum, Stop<ShapeError>>
-    requires { kind_at key table.now ≡ Some Kind.Number }
-    ensures { Answers (λ d. d) result (number_in table.now key path.now (view value.now)) }
+) -> Result<(), Stop<ShapeError>>
+    ensures { Answers (λ u. payment.new) result (number_put table.now key path.now (view value.now) payment.old) }
 {
     let number = whole(alloc, value, path)?;
-    let (least, greatest) = table.bounds(key);
-    if number < least || greatest < number {
-        return Err(path.stop(OUT_OF_BOUNDS));
-    }
-    Ok(Datum::Number(number))
+    let slot = Slot { key, sub: None };
+    put_fitting(
+        payment,
+        table,
+        slot,
+        Datum::Number(number),
+        path,
+        OUT_OF_BOUNDS,
+    )
 }
 
-// The string at a path, of at most 1,024 bytes.
-fn text(alloc: Global, path: &Path, value: &Value) -> Result<Text, Stop<ShapeError>>
-    ensures { Answers (λ t. t) result (text_in path.now (view value.now)) }
+// Puts the string at a path, of at most as many bytes as a text may have.
+fn put_text(
+    alloc: Global,
+    payment: &mut Payment,
+    table: &KeyTable,
+    key: u32,
+    path: &Path,
+    value: &Value,
+) -> Result<(), Stop<ShapeError>>
+    ensures { Answers (λ u. payment.new) result (text_put table.now (at key None) path.now (view value.now) payment.old) }
 {
     let Some(text) = value.as_str() else {
         return Err(path.stop(WRONG_SHAPE));
     };
-    if text.len() > MOST_TEXT_BYTES {
-        return Err(path.stop(TEXT_LONG));
+    let text = Text::from_str(alloc, text)?;
+    let slot = Slot { key, sub: None };
+    put_fitting(payment, table, slot, Datum::Text(text), path, TEXT_LONG)
+}
+
+// Puts a value at a slot where it fits, and else gives the fault with a code at a path.
+fn put_fitting(
+    payment: &mut Payment,
+    table: &KeyTable,
+    slot: Slot,
+    datum: Datum,
+    path: &Path,
+    code: u8,
+) -> Result<(), Stop<ShapeError>>
+    ensures { Answers (λ u. payment.new) result (fitting_put table.now (fault code path.now) slot datum payment.old) }
+{
+    if !table.datum_fits(&slot, &datum) {
+        return Err(path.stop(code));
     }
-    Ok(Text::from_str(alloc, text)?)
+    payment.put(slot, datum)?;
+    Ok(())
 }

@@ -1,6 +1,7 @@
-ghost use Rattle.std.specs.Prelude.{[]};
+ghost use Rattle.std.specs.Prelude.{◌≡◌, [], IfOk, true};
 ghost use Rattle.serde_json.specs.View.{view, members_view};
 ghost use Rattle.key_table.specs.Answers.{Answers};
+ghost use Rattle.key_table.specs.Payments.{is_legal};
 ghost use Rattle.payment_reader.specs.Reading.{fields_put, payment_in, payment_or_fault, payment_of};
 
 use crate::PaymentError;
@@ -31,12 +32,14 @@ use std::alloc::Global;
 /// - Limit exactly where the object of a metadata key has more than 4,096 names. Then each of these names in turn, at its
 ///   own path, has TextLong exactly where it has more than 255 bytes and, unless its value is null, WrongShape exactly
 ///   where the value is no string, and TextLong exactly where the string has more than 1,024 bytes.
+#[tactic(auto, using(crate::proofs::Legal::read_is_legal))]
 pub fn read_payment(
     alloc: Global,
     table: &KeyTable,
     bytes: &[u8],
 ) -> Result<Payment, Stop<PaymentError>>
-    ensures { Answers (λ p. p) result (payment_of table.now bytes.now) }
+    ensures payment { Answers (λ p. p) result (payment_of table.now bytes.now) }
+    ensures legal { IfOk result (λ p. is_legal table.now p ≡ true) }
 {
     match payment_from(alloc, table, bytes) {
         Ok(payment) => Ok(payment),

@@ -1,5 +1,5 @@
 -- What clauses see of a shelf and of a sink.
-use Rattle.std.specs.Prelude.{◌≡◌, ℕ, ◌+◌, ◌-◌, ◌^◌, ◌≤◌, min, List, ◌++◌, length, take, Option, Some, None, Result, Ok, Err, option_map, Vec}
+use Rattle.std.specs.Prelude.{◌≡◌, ◌⊎◌, ℕ, ◌+◌, ◌-◌, ◌^◌, ◌<◌, ◌≤◌, min, List, ◌++◌, length, take, Option, Some, None, Result, Ok, Err, option_map, Vec}
 use Rattle.std.specs.declared.alloc.Global.{Global}
 use Rattle.shelf_io.specs.declared.traits.ReadError.{ReadError}
 use Rattle.shelf_io.specs.declared.traits.ReadError.TheVariants.{Failed, Absent, NoMemory}
@@ -23,9 +23,9 @@ pub record ShelfSeen : Type 0 where
 abbrev pub next_count : ℕ → ℕ
 next_count count = min (count + 1) (2 ^ 64 - 1)
 
--- A count that rose by at least one, or stands at the largest number of 64 bits.
+-- A count that rose, or stands at the largest number of 64 bits.
 abbrev pub Rose : ℕ → ℕ → Type 0
-Rose before now = next_count before ≤ now
+Rose before now = (before < now) ⊎ (now ≡ 2 ^ 64 - 1)
 
 -- The shelf failed on this name in between.
 pub record FailedOn (name : Name) (old new : ShelfSeen) : Type 0 where

@@ -1,7 +1,7 @@
 use Rattle.std.proofs.Common.{◌≡◌, Option, Some, subst}
 use Rattle.euclidc_program.specs.Commands.{Command}
-use Rattle.euclidc_program.specs.Top.{Meets, Completes, Misses}
-use Rattle.euclidc_program.proofs.Meetings.{does, keeps}
+use Rattle.euclidc_program.specs.Top.{Meets, LeavesShelf, Completes, Misses}
+use Rattle.euclidc_program.proofs.Meetings.{does, keeps, leaves_shelf}
 use Rattle.euclidc_program.proofs.Completeness.{completes, misses}
 use Rattle.euclidc_program.proofs.top.euclidc.Goals as goal
 
@@ -13,12 +13,17 @@ returns-clause-means g c =
 pub returns-clause-keeps : goal.returns-clause-keeps
 returns-clause-keeps g c = keeps _ _ _ _ _ _ _ c.outcome-outcome.ensures c.finish.ensures
 
+pub returns-clause-still : goal.returns-clause-still
+returns-clause-still g c =
+    let P : Option Command → Type 0 = λ o. LeavesShelf o (g.F.Shelf.seen c.args.shelf.now) (g.F.Shelf.seen c.outcome-outcome.new.shelf) c.finish.result in
+    subst P c.in-Some.ensures (leaves_shelf _ _ _ _ _ _ _ c.outcome-outcome.ensures c.finish.ensures)
+
 pub returns-clause-completes : goal.returns-clause-completes
 returns-clause-completes g c =
     let P : Option Command → Type 0 = λ o. Completes o (g.F.Shelf.seen c.args.shelf.now) (g.F.Shelf.seen c.outcome-outcome.new.shelf) (g.K.Sink.seen c.args.out.now) (g.K.Sink.seen c.finish.new.out) c.finish.result in
-    subst P c.in-Some.ensures (completes _ _ _ _ _ _ (does _ _ _ _ _ _ _ c.outcome-outcome.ensures c.finish.ensures))
+    subst P c.in-Some.ensures (completes _ _ _ _ _ _ _ c.outcome-outcome.ensures c.finish.ensures)
 
 pub returns-clause-misses : goal.returns-clause-misses
 returns-clause-misses g c =
     let P : Option Command → Type 0 = λ o. Misses o (g.F.Shelf.seen c.args.shelf.now) c.finish.result in
-    subst P c.in-Some.ensures (misses _ _ _ _ _ _ (does _ _ _ _ _ _ _ c.outcome-outcome.ensures c.finish.ensures))
+    subst P c.in-Some.ensures (misses _ _ _ _ _ _ _ c.outcome-outcome.ensures c.finish.ensures)

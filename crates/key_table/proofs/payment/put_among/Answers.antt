@@ -1,53 +1,71 @@
-use Rattle.std.proofs.Common.{◌≡◌, ◌+◌, ◌<◌, length, set, take, drop}
-use Rattle.std.proofs.lemmas.Result.{on_ok_weaker, on_err_weaker, IfOk-weaker}
-use Rattle.key_table.specs.Places.{AreBefore, AreAfter, AreRuns, entries_of}
-use Rattle.key_table.proofs.Cuts.{run_ascends, put_entries, same_entries, runs_put, runs_same, run_filled, length_entries, both_ok, both_err, by_outcome}
+use Rattle.std.proofs.Common.{◌≡◌, ◌+◌, ◌<◌, ◌≤◌, ◌∙◌, List, ℕ, Option, length, set, take, drop, sym, subst, refl, arith}
+use Rattle.std.specs.Option.{option_copied}
+use Rattle.std.specs.Vec.{with_item}
+use Rattle.std.proofs.lemmas.List.{length-set, get_or_read}
+use Rattle.std.proofs.lemmas.List.Elements.{All-set}
+use Rattle.key_table.specs.declared.slot.Slot.{Slot}
+use Rattle.key_table.specs.declared.slot.Datum.{Datum}
+use Rattle.key_table.specs.Slots.{at}
+use Rattle.key_table.specs.Payments.{Entries, AreAscending}
+use Rattle.key_table.specs.Places.{AreBefore, AreAfter, StandsAt, GoesTo, Run, entries_of}
+use Rattle.key_table.proofs.Cuts.{run_ascends, at_run, datum_put, entry_put, same_length, runs_put}
 use Rattle.key_table.proofs.payment.put_among.Goals as goal
 
 -- each run is in order
-pub put_into_run-requires : goal.put_into_run-requires
-put_into_run-requires c =
+pub place-requires : goal.place-requires
+place-requires c =
+    let P : Entries → Type 0 = λ es. AreAscending es in
     let within : c.run_of-i.result < length c.args.runs.now.items = rw c.deref.ensures.value at c.run_of-i.ensures.within in
-    run_ascends c.args.runs.now.items c.run_of-i.result c.index_mut.result.now within c.index_mut.ensures.value c.requires.are_runs.ascending
+    subst P (sym c.deref-2.ensures.value) (run_ascends c.args.runs.now.items c.run_of-i.result c.index.result.now within c.index.ensures c.requires.are_runs.ascending)
 
--- a put into the run to which the slot goes is a put into the payment
-pub returns-clause-ok : goal.returns-clause-ok
-returns-clause-ok c =
+-- the slot goes to a place of its run
+pub insert_at-requires-clause-place : goal.insert_at-requires-clause-place
+insert_at-requires-clause-place c =
+    let within : c.run_of-i.result < length c.args.runs.now.items = rw c.deref.ensures.value at c.run_of-i.ensures.within in
+    let le : c.in-Err.place ≤ length c.index.result.now.items = rw c.deref-2.ensures.value at c.in-Err.ensures.within in
+    at_run (λ (r : Run). c.in-Err.place ≤ length r.items) c.args.runs.now.items c.run_of-i.result c.index.result.now within c.index.ensures le
+
+-- the datum is written over where the slot stands
+pub returns-in-Ok : goal.returns-in-Ok
+returns-in-Ok c =
     let runs = c.args.runs.now.items in
     let i = c.run_of-i.result in
     let slot = c.args.slot in
+    let run = c.index_mut-run.result.now in
+    let e : Slot × Datum = c.index_mut.result.now in
+    let place = c.in-Ok.place in
+    let new : Run = with_item run place (e.0, c.args.datum) in
     let within : i < length runs = rw c.deref.ensures.value at c.run_of-i.ensures.within in
     let before : AreBefore slot (entries_of (take i runs)) = rw (c.deref.ensures.value, c.as_ref.ensures.value) at c.run_of-i.ensures.before in
     let after : AreAfter slot (entries_of (drop (i + 1) runs)) = rw (c.deref.ensures.value, c.as_ref.ensures.value) at c.run_of-i.ensures.after in
-    on_ok_weaker c.put_into_run.result (put_entries runs i c.index_mut.result.now within c.index_mut.ensures.value slot before after c.args.datum c.put_into_run.new.entries) c.put_into_run.ensures.ok
+    let found : StandsAt slot c.index.result.now.items place = rw (c.deref-2.ensures.value, c.as_ref-2.ensures.value) at c.in-Ok.ensures in
+    let is = c.index_mut-run.ensures.value in
+    let same : c.index.result.now ≡ run = get_or_read runs i c.index.result.now within c.index.ensures run ∙ sym is in
+    let P : Run → Type 0 = λ r. StandsAt slot r.items place in
+    let stands : StandsAt slot run.items place = subst P same found in
+    let put = datum_put runs i run within is slot before after c.args.datum place e new stands c.index_mut.ensures.value refl in
+    let long : length new.items ≡ length run.items = length-set run.items place (e.0, c.args.datum) in
+    record {
+      ok = put;
+      added = omega (arith, same_length runs i run within is new long);
+      one = omega arith;
+      err = tt;
+      are_runs = runs_put runs (set runs i new) slot c.args.datum c.requires.are_runs put (All-set (λ (r : Run). 0 < length r.items) runs i new (omega (arith, stands.within)) c.requires.are_runs.filled);
+    }
 
--- a run that stays as it was leaves the payment as it was
-pub returns-clause-err : goal.returns-clause-err
-returns-clause-err c =
+-- the entry is added where the slot goes
+pub returns-in_ok-insert_at-in-Err-clause-ok : goal.returns-in_ok-insert_at-in-Err-clause-ok
+returns-in_ok-insert_at-in-Err-clause-ok c =
     let runs = c.args.runs.now.items in
     let i = c.run_of-i.result in
+    let slot = c.args.slot in
+    let run = c.index.result.now in
     let within : i < length runs = rw c.deref.ensures.value at c.run_of-i.ensures.within in
-    on_err_weaker c.put_into_run.result (same_entries runs i c.index_mut.result.now within c.index_mut.ensures.value c.put_into_run.new.entries) c.put_into_run.ensures.err
+    let before : AreBefore slot (entries_of (take i runs)) = rw (c.deref.ensures.value, c.as_ref.ensures.value) at c.run_of-i.ensures.before in
+    let after : AreAfter slot (entries_of (drop (i + 1) runs)) = rw (c.deref.ensures.value, c.as_ref.ensures.value) at c.run_of-i.ensures.after in
+    let goes : GoesTo slot run.items c.in-Err.place = rw (c.deref-2.ensures.value, c.as_ref-2.ensures.value) at c.in-Err.ensures in
+    c.in_ok-insert_at-in-Err.ensures.ok ∙ entry_put runs i run within c.index.ensures slot before after c.args.datum c.in-Err.place goes
 
--- either way the runs stay runs
-pub returns-clause-are_runs : goal.returns-clause-are_runs
-returns-clause-are_runs c =
-    let runs = c.args.runs.now.items in
-    let i = c.run_of-i.result in
-    let run = c.index_mut.result.now in
-    let new = c.put_into_run.new.entries in
-    let within : i < length runs = rw c.deref.ensures.value at c.run_of-i.ensures.within in
-    let some : new.items ≡ run.items → 0 < length new.items = λ same. rw same (run_filled runs i run c.requires.are_runs within c.index_mut.ensures.value) in
-    let put = both_ok _ _ c.put_into_run.result (returns-clause-ok c) c.put_into_run.ensures.ok in
-    let kept = both_err _ _ c.put_into_run.result (returns-clause-err c) c.put_into_run.ensures.err in
-    by_outcome (AreRuns (set runs i new)) c.put_into_run.result put kept
-    (λ _ (whole, part). runs_put runs i new c.args.slot c.args.datum run.items c.requires.are_runs whole part)
-    (λ _ (whole, part). runs_same runs i new c.requires.are_runs whole (some part))
-
--- the payment grows as the run does
-pub returns-clause-added : goal.returns-clause-added
-returns-clause-added c =
-    let runs = c.args.runs.now.items in
-    let i = c.run_of-i.result in
-    let within : i < length runs = rw c.deref.ensures.value at c.run_of-i.ensures.within in
-    IfOk-weaker c.put_into_run.result _ _ (length_entries runs i c.index_mut.result.now within c.index_mut.ensures.value c.put_into_run.new.entries) c.put_into_run.ensures.added
+pub returns-in_ok-insert_at-in-Err-clause-are_runs : goal.returns-in_ok-insert_at-in-Err-clause-are_runs
+returns-in_ok-insert_at-in-Err-clause-are_runs c =
+    runs_put c.args.runs.now.items c.insert_at.new.runs.items c.args.slot c.args.datum c.requires.are_runs (returns-in_ok-insert_at-in-Err-clause-ok c) c.in_ok-insert_at-in-Err.ensures.filled

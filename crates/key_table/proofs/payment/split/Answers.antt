@@ -1,33 +1,30 @@
-use Rattle.std.proofs.Common.{◌/◌, ◌<◌, ◌≤◌, ◌∙◌, List, ◌++◌, length, take, ap, arith, sym, subst}
-use Rattle.std.specs.Vec.{vec_len}
+use Rattle.std.proofs.Common.{◌≡◌, ◌/◌, ◌<◌, ◌≤◌, ◌∙◌, ◌+◌, List, ◌++◌, length, set, take, ap, arith}
+use Rattle.std.specs.List.{insert}
 use Rattle.std.proofs.lemmas.List.{take-append-drop}
 use Rattle.key_table.specs.Payments.{Entries}
-use Rattle.key_table.specs.Places.{AreRuns, Run, entries_of}
-use Rattle.key_table.proofs.Cuts.{split_entries, runs_split, run_at}
+use Rattle.key_table.specs.Places.{Run}
+use Rattle.key_table.proofs.Cuts.{run_at, at_run}
 use Rattle.key_table.proofs.payment.split.Goals as goal
 
--- the run's entries are those of the two halves
-pub returns-clause-entries : goal.returns-clause-entries
-returns-clause-entries c =
+-- the run's entries are those of the two parts, and both have some
+pub returns-clause-ok : goal.returns-clause-ok
+returns-clause-ok c =
+    let runs = c.args.runs.now.items in
+    let i = c.args.i in
     let run = c.index_mut-run.result.now in
+    let front = c.split_off.new.self in
     let tail = c.in_ok-tail.tail in
     let middle = c.len-middle.result / 2 in
-    let within : c.args.i < length c.reserve.new.self.items = omega (arith, c.reserve.new.self.ok.0) in
-    let parts = ap (λ (es : Entries). es ++ tail.items) c.in_ok-tail.ensures.items ∙ ap (λ (es : Entries). take middle run.items ++ es) c.in_ok-tail.ensures.tail ∙ take-append-drop middle run.items in
-    ap (λ (rs : List Run). entries_of rs) c.in_ok-insert.ensures.items
-    ∙ split_entries c.reserve.new.self.items c.args.i run within c.index_mut-run.ensures.value c.split_off.new.self tail parts
-    ∙ ap (λ (rs : List Run). entries_of rs) c.in_ok-reserve.ensures.items
-
--- and both halves have some
-pub returns-clause-are_runs : goal.returns-clause-are_runs
-returns-clause-are_runs c =
-    let P : List Run → Type 0 = λ runs. AreRuns runs in
-    let run = c.index_mut-run.result.now in
-    let within : c.args.i < length c.reserve.new.self.items = omega (arith, c.reserve.new.self.ok.0) in
-    let wanted = rw (← c.in_ok-reserve.ensures.items) at c.requires.two in
-    let two = run_at (λ (r : Run). 2 ≤ vec_len r) c.reserve.new.self.items c.args.i run within c.index_mut-run.ensures.value wanted in
-    let front : 0 < length c.split_off.new.self.items = omega (arith, c.split_off.new.self.ok.0, c.in_ok-tail.ensures.len) in
-    let back : 0 < length c.in_ok-tail.tail.items = omega (arith, c.in_ok-tail.tail.ok.0, c.in_ok-tail.ensures.tail_len) in
-    let old = subst P (sym c.in_ok-reserve.ensures.items) c.requires.are_runs in
-    let same = ap (λ (rs : List Run). entries_of rs) (sym c.in_ok-insert.ensures.items) ∙ returns-clause-entries c ∙ ap (λ (rs : List Run). entries_of rs) (sym c.in_ok-reserve.ensures.items) in
-    subst P (sym c.in_ok-insert.ensures.items) (runs_split c.reserve.new.self.items c.args.i c.split_off.new.self c.in_ok-tail.tail old same front back)
+    let within : i < length runs = omega (arith, c.args.runs.now.ok.0) in
+    let at = rw c.in_ok-reserve.ensures.items at c.index_mut-run.ensures.value in
+    let two = run_at (λ (r : Run). 2 ≤ length r.items) runs i run within at c.requires.two in
+    let whole = ap (λ (es : Entries). es ++ tail.items) c.in_ok-tail.ensures.items ∙ ap (λ (es : Entries). take middle run.items ++ es) c.in_ok-tail.ensures.tail ∙ take-append-drop middle run.items in
+    record {
+      front = front;
+      tail = tail;
+      parts = c.in_ok-insert.ensures.items ∙ ap (λ (rs : List Run). insert (set rs i front) (i + 1) tail) c.in_ok-reserve.ensures.items;
+      whole = at_run (λ (r : Run). front.items ++ tail.items ≡ r.items) runs i run within at whole;
+      cut = omega (arith, front.ok.0, c.in_ok-tail.ensures.len);
+      some = omega (arith, front.ok.0, c.in_ok-tail.ensures.len, run.ok.0);
+      more = omega (arith, tail.ok.0, c.in_ok-tail.ensures.tail_len, run.ok.0);
+    }

@@ -1,6 +1,6 @@
-use Rattle.std.proofs.Common.{◌≡◌, ℕ, ◌<◌, take}
+use Rattle.std.proofs.Common.{◌≡◌, ℕ, ◌<◌}
 use Rattle.serde_json.specs.View.{members_view}
-use Rattle.payment_reader.specs.Cursors.{AreUnderEarlier, HasBitsAt}
+use Rattle.payment_reader.specs.WellMade.{HasBitsAt}
 use Rattle.payment_reader.specs.Written.{fields_of}
 use Rattle.payment_reader.proofs.write.payment_value.Given as goal
 
@@ -8,5 +8,4 @@ abbrev pub invariant-loop-key : goal.invariant-loop-key
 invariant-loop-key l = record {
   fields : members_view l.fields.entries ≡ fields_of l.key l.table l.payment;
   bits : (key : ℕ) → key < l.key → HasBitsAt key l.table l.payment;
-  under : AreUnderEarlier l.key (take l.place l.payment);
 }
