@@ -1,5 +1,5 @@
 -- Reading a program, of which there may be so many statements and comparisons in all.
-use Rattle.std.specs.Prelude.{ℕ, ◌+◌, List, [], ◌∷◌, nat_lt, if◌then◌else◌, Result, Ok, Err, ⊤}
+use Rattle.std.specs.Prelude.{◌+◌, List, [], ◌∷◌, nat_lt, if◌then◌else◌, Result, Ok, Err, ⊤}
 use Rattle.key_table.specs.Answers as answers
 use Rattle.serde_json.specs.Data.{Data}
 use Rattle.json_program.specs.declared.counts.Counts.{Counts}

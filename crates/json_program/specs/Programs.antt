@@ -1,5 +1,5 @@
 -- Programs in JSON.
-use Rattle.std.specs.Prelude.{ℕ, List, [], codes, false, not, Option, option_and_then, Result, Ok, Err, ⊤, bytes_eq}
+use Rattle.std.specs.Prelude.{ℕ, List, [], codes, false, not, Result, Ok, Err, ⊤}
 use Rattle.std.specs.Option.{option_map_or}
 use Rattle.key_table.specs.Answers as answers
 use Rattle.key_table.specs.Answers.{provided}
@@ -7,7 +7,6 @@ use Rattle.serde_json.specs.Data.{Data}
 use Rattle.serde_json.specs.Find.{get}
 use Rattle.euclid_ast.specs.declared.program.Rule.{Rule}
 use Rattle.euclid_ast.specs.declared.program.Program.{Program}
-use Rattle.json_program.specs.declared.counts.Counts.{Counts}
 use Rattle.json_program.specs.declared.error.Unbuilt.{Unbuilt}
 use Rattle.json_program.specs.declared.error.JsonError.{JsonError}
 use Rattle.json_program.specs.Shapes.{json_of, field_of, is_string, list_of, unbuilt}

@@ -1,5 +1,5 @@
 -- Selections in JSON. A plain one is a priority list.
-use Rattle.std.specs.Prelude.{ℕ, List, codes, Result, Ok}
+use Rattle.std.specs.Prelude.{codes, Result, Ok}
 use Rattle.key_table.specs.Answers.{◌>>=◌}
 use Rattle.serde_json.specs.Data.{Data}
 use Rattle.euclid_ast.specs.declared.selection.Account.{Account}

@@ -12,7 +12,7 @@ use Rattle.json_program.specs.declared.error.Unbuilt.{Unbuilt}
 abbrev pub unbuilt : Unbuilt
 unbuilt = record {}
 
--- what is read, wherever a fault stands
+-- what is read, or Unbuilt where there is a fault
 abbrev pub or_unbuilt : {A : Type 0} → Result A ShapeError → Result A Unbuilt
 or_unbuilt (Ok x) = Ok x
 or_unbuilt (Err e) = Err unbuilt

@@ -1,5 +1,5 @@
 -- Statements and comparisons in JSON. Plain ones are not nested, and compare with one variant by `equal`.
-use Rattle.std.specs.Prelude.{ℕ, List, codes, is_none, Option, None, Result, Ok}
+use Rattle.std.specs.Prelude.{ℕ, List, codes, is_none, None, Result, Ok}
 use Rattle.key_table.specs.Answers as answers
 use Rattle.key_table.specs.Answers.{provided}
 use Rattle.key_table.specs.declared.atom.Op.TheVariants.{Equal}
