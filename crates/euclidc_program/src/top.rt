@@ -17,7 +17,7 @@ use std::alloc::Global;
 const USAGE: &[u8] =
     b"usage: euclidc decide K P PAY | report K P S B | prove K P S T B | check K P S T C | convert P json|text | sample N\n";
 
-/// Does what the words ask for, and puts the answer: whole, by one `put`. Where the words are no command it puts the usage
+/// Does what the words ask for, and puts the whole answer. Where the words are no command it puts the usage
 /// line, and reads no file.
 pub fn euclidc<F: Shelf, K: Sink>(
     alloc: Global,
