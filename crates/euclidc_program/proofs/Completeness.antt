@@ -1,5 +1,5 @@
 -- What the meaning of the statuses implies: completeness, and what a missing file gives.
-use Rattle.std.proofs.Common.{◌≡◌, ℕ, List, Option, Some, None, Result, ◌⊎◌, inl, inr, refl}
+use Rattle.std.proofs.Common.{◌≡◌, Option, Some, None, Result, ◌⊎◌, inl, inr, refl}
 use Rattle.shelf_io.specs.Seen.{Name, Files, ShelfSeen, SinkSeen, FailedOn, WhereTold}
 use Rattle.euclidc_program.specs.declared.answer.Answer.{Answer}
 use Rattle.euclidc_program.specs.declared.answer.Halt.{Halt}
@@ -9,7 +9,7 @@ use Rattle.euclidc_program.specs.declared.status.Status.{Status}
 use Rattle.euclidc_program.specs.declared.status.Status.TheVariants as status
 use Rattle.euclidc_program.specs.Stages.{Among, Fault, Concludes}
 use Rattle.euclidc_program.specs.Commands.{Command, MayAnswer, asked, names, IsGood, IsMissing}
-use Rattle.euclidc_program.specs.Top.{WritesWhole, WritesFront, known_to, Does, IsCalm, Completes, Misses, Finishes}
+use Rattle.euclidc_program.specs.Top.{WritesWhole, known_to, Does, IsCalm, Completes, Misses, Finishes}
 use Rattle.euclidc_program.proofs.CommandLemmas.{asked-named, good-done, good-held, missing-none}
 use Rattle.euclidc_program.proofs.Meetings.{does}
 use Rattle.euclidc_program.proofs.Told.{told_all, told_map}

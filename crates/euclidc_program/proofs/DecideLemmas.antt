@@ -1,5 +1,5 @@
 -- What the command `decide` reaches.
-use Rattle.std.proofs.Common.{◌≡◌, ℕ, List, [], ◌∷◌, ◌++◌, None, inl, inr, refl}
+use Rattle.std.proofs.Common.{List, [], ◌∷◌, ◌++◌, inl, inr, refl}
 use Rattle.shelf_io.specs.Seen.{Name, Files}
 use Rattle.key_table.specs.Tables.{Table}
 use Rattle.key_table.specs.Payments.{Entries}

@@ -1,5 +1,5 @@
 -- A file whose read failed.
-use Rattle.std.proofs.Common.{◌≡◌, ℕ, List, [], ◌∷◌, Option, Some, None, Result, Err, Vec, inl, refl, subst, sym}
+use Rattle.std.proofs.Common.{◌≡◌, ℕ, [], ◌∷◌, Option, Some, None, Result, Err, Vec, inl, refl, subst}
 use Rattle.std.specs.declared.alloc.Global.{Global}
 use Rattle.shelf_io.specs.declared.traits.ReadError.{ReadError}
 use Rattle.shelf_io.specs.declared.traits.ReadError.TheVariants.{Failed}

@@ -1,5 +1,5 @@
 -- A first stage and what follows it, as one run.
-use Rattle.std.proofs.Common.{◌≡◌, ℕ, List, [], ◌∷◌, ◌++◌, Option, Some, None, Result, Ok, Err, ◌⊎◌, refl, sym, subst}
+use Rattle.std.proofs.Common.{◌≡◌, ℕ, List, ◌∷◌, ◌++◌, Option, Some, None, Result, Ok, Err, refl, sym, subst}
 use Rattle.shelf_io.specs.Seen.{Name, Files, ShelfSeen, WhereTold}
 use Rattle.euclidc_program.specs.declared.answer.Answer.{Answer}
 use Rattle.euclidc_program.specs.declared.answer.Halt.{Halt}

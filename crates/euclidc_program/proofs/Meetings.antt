@@ -1,16 +1,15 @@
 -- A command's answer, put, is what the top call owes.
-use Rattle.std.proofs.Common.{◌≡◌, ℕ, List, [], ◌∷◌, take, Option, Some, None, Result, Ok, Err, ◌⊎◌, inl, inr, refl, sym, ap, subst, ◌≤◌, arith}
-use Rattle.shelf_io.specs.Seen.{Name, Files, ShelfSeen, SinkSeen, FailedOn, WhereTold, Rose, more}
+use Rattle.std.proofs.Common.{◌≡◌, ℕ, List, Option, Some, None, Result, Ok, Err, inl, inr, sym, ap, subst, ◌≤◌, arith}
+use Rattle.shelf_io.specs.Seen.{Files, ShelfSeen, SinkSeen, WhereTold}
 use Rattle.euclidc_program.specs.declared.answer.Answer.{Answer}
 use Rattle.euclidc_program.specs.declared.answer.Halt.{Halt}
 use Rattle.euclidc_program.specs.declared.answer.Halt.TheVariants as halt
 use Rattle.euclidc_program.specs.declared.status.Verdict.{Verdict}
 use Rattle.euclidc_program.specs.declared.status.Verdict.TheVariants as verdict
 use Rattle.euclidc_program.specs.declared.status.Status.{Status}
-use Rattle.euclidc_program.specs.declared.status.Status.TheVariants as status
 use Rattle.euclidc_program.specs.Commands.{Command, MayAnswer, asked, names}
-use Rattle.euclidc_program.specs.Stages.{Among, Fault, Concludes, Stays}
-use Rattle.euclidc_program.specs.Top.{WritesWhole, WritesFront, known_to, Does, Finishes, PutGives, Keeps, HasFile, LeavesShelf}
+use Rattle.euclidc_program.specs.Stages.{Fault, Concludes, Stays}
+use Rattle.euclidc_program.specs.Top.{WritesWhole, known_to, Does, Finishes, PutGives, Keeps, HasFile, LeavesShelf}
 use Rattle.euclidc_program.specs.Statuses.{status_of}
 use Rattle.euclidc_program.proofs.CommandLemmas.{asked-named}
 use Rattle.euclidc_program.proofs.Told.{told_map}

@@ -1,5 +1,5 @@
 -- Names among others.
-use Rattle.std.proofs.Common.{◌≡◌, ℕ, List, [], ◌∷◌, ◌++◌, Option, ◌⊎◌, inl, inr, refl, sym, subst}
+use Rattle.std.proofs.Common.{◌≡◌, List, [], ◌∷◌, ◌++◌, Option, ◌⊎◌, inl, inr, refl, sym, subst}
 use Rattle.shelf_io.specs.Seen.{Name, Files}
 use Rattle.euclidc_program.specs.Stages.{Among, known_files}
 

@@ -1,8 +1,7 @@
 -- A run that reaches a file which is not held lacks it, and it reaches files of the command alone.
-use Rattle.std.proofs.Common.{◌≡◌, ℕ, List, [], ◌∷◌, ◌++◌, Option, None, Result, ◌⊎◌, inl, inr, refl, sym, ap, ◌∙◌}
+use Rattle.std.proofs.Common.{◌≡◌, ℕ, List, None, Result, inl, inr, refl, sym, ap, ◌∙◌}
 use Rattle.shelf_io.specs.Seen.{Name, Files}
 use Rattle.euclidc_program.specs.declared.role.Role.{Role}
-use Rattle.euclidc_program.specs.declared.status.Verdict.{Verdict}
 use Rattle.euclidc_program.specs.Runs.{Run, End, goes, ends, lacks, after, ◌>>=◌, ending, judged, bytes_of, bytes_in, file}
 use Rattle.euclidc_program.specs.Stages.{Among}
 use Rattle.euclidc_program.proofs.Names.{among-append, AllAmong, one_among, none_among}

@@ -1,5 +1,5 @@
 -- The forms of words that are commands.
-use Rattle.std.specs.Prelude.{ℕ, List, [], ◌∷◌, length, codes, decimal, bytes_eq, nat_lt, nat_le, Bool, true, false, ◌&&◌, ◌||◌, ◌==◌}
+use Rattle.std.specs.Prelude.{ℕ, List, [], ◌∷◌, length, codes, decimal, bytes_eq, nat_lt, nat_le, Bool, true, ◌&&◌, ◌||◌, ◌==◌}
 use Rattle.std.specs.List.{list_any}
 use Rattle.std.specs.Str.Parse.{digits_value}
 

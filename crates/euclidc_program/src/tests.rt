@@ -100,10 +100,20 @@ PAY [
 $ decide - P PAY
 P [
 ===
+3 refused program unbuilt
+$ decide - P PAY
+P {"defaultSelection":{"type":"priority","data":[{"connector":"stripe"}]},"rules":[{"name":"cards","connectorSelection":{"type":"priority","data":[{"connector":"adyen"}]},"statements":[{"condition":[{"lhs":"payment_method","comparison":"not_equal","value":{"type":"enum_variant","value":"card"}}]}]}]}
+PAY {}
+===
 3 refused payment 3 ""
 $ decide - P PAY
 P *
 PAY []
+===
+3 refused payment 3 "/amount"
+$ decide - P PAY
+P *
+PAY {"amount":"5"}
 ===
 3 refused payment 3 "/metadata/a\"~1b"
 $ decide - P PAY
@@ -124,6 +134,11 @@ PAY {"zone":1,"colour":null}
 $ decide - P PAY
 P *
 PAY {"payment_method":"Card"}
+===
+3 refused payment 7 "/currency"
+$ decide - P PAY
+P *
+PAY {"currency":"XXX"}
 ===
 3 refused payment 8 "/amount"
 $ decide - P PAY

@@ -2,7 +2,7 @@ use Rattle.std.proofs.Common.{[], ◌∷◌}
 use Rattle.euclidc_program.specs.CommandViews.{source_view}
 use Rattle.euclidc_program.specs.TableFiles.{table_in, table_names}
 use Rattle.euclidc_program.specs.Decide.{run_by, Decides}
-use Rattle.euclidc_program.proofs.Joined.{halts_first, concludes_next}
+use Rattle.euclidc_program.proofs.Joined.{concludes_next}
 use Rattle.euclidc_program.proofs.decide.run_decide.Goals as goal
 
 pub returns : goal.returns

@@ -1,4 +1,4 @@
-use Rattle.std.proofs.Common.{◌≡◌, Option, Some, subst}
+use Rattle.std.proofs.Common.{Option, subst}
 use Rattle.euclidc_program.specs.Commands.{Command}
 use Rattle.euclidc_program.specs.Top.{Meets, LeavesShelf, Completes, Misses}
 use Rattle.euclidc_program.proofs.Meetings.{does, keeps, leaves_shelf}

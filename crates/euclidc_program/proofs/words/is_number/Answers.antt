@@ -1,4 +1,4 @@
-use Rattle.std.proofs.Common.{◌∙◌, leb, ◌&&◌, arith, sym}
+use Rattle.std.proofs.Common.{◌∙◌, arith, sym}
 use Rattle.std.proofs.lemmas.Bool.{le-leb}
 use Rattle.euclidc_program.proofs.Numbers.{number-ok, number-large, number-err}
 use Rattle.euclidc_program.proofs.words.is_number.Goals as goal
