@@ -10,6 +10,3 @@ pub use meaning::{Choice, choice_of_source};
 pub use program::{Program, Rule};
 pub use selection::{Account, Selection, Share, ThreeDs};
 pub use statement::{Comparison, NumberTest, Statement, ValueForm};
-
-#[cfg(test)]
-mod tests;

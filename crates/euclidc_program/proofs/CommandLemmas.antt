@@ -1,9 +1,8 @@
 -- What holds of each command's run and of its answers.
 use Rattle.std.proofs.Common.{◌≡◌, ℕ, List, None, subst}
 use Rattle.shelf_io.specs.Seen.{Name, Files}
-use Rattle.key_table.specs.Tables.{Table}
 use Rattle.key_table.specs.Payments.{Entries}
-use Rattle.euclid_ast.specs.declared.program.Program.{Program}
+use Rattle.dir_typing.specs.Typed.{Typed}
 use Rattle.euclidc_program.specs.declared.status.Verdict.{Verdict}
 use Rattle.euclidc_program.specs.declared.status.Verdict.TheVariants as verdict
 use Rattle.euclidc_program.specs.Runs.{End, goes}
@@ -20,7 +19,7 @@ asked-named Unbuilt files name among = among
 -- good files have the verdict Done alone
 pub good-done : (command : Command) (files : Files) → IsGood command files → (text : List ℕ) (v : Verdict) → MayAnswer command files text v → v ≡ verdict.Done
 good-done (Decide source program_name payment_name) files (read, is) text v answer =
-    let P : End (Table × Program × Entries) → Type 0 = λ e. Ending Decides e text v in
+    let P : End (Typed × Entries) → Type 0 = λ e. Ending Decides e text v in
     let decided : P (goes read) = subst P is answer in
     decided.1
 good-done Unbuilt files good text v answer = absurd good
@@ -33,6 +32,6 @@ good-held Unbuilt files good name among none = absurd good
 -- there is no answer where a file that is reached is not held
 pub missing-none : (command : Command) (files : Files) → IsMissing command files → (text : List ℕ) (v : Verdict) → MayAnswer command files text v → ⊥
 missing-none (Decide source program_name payment_name) files (name, among, none) text v answer =
-    let P : End (Table × Program × Entries) → Type 0 = λ e. Ending Decides e text v in
+    let P : End (Typed × Entries) → Type 0 = λ e. Ending Decides e text v in
     subst P (decide-lacks source program_name payment_name files name among none) answer
 missing-none Unbuilt files (name, among, none) text v answer = absurd among

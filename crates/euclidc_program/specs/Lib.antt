@@ -10,6 +10,7 @@ pub mod Runs
 pub mod Stages
 pub mod Statuses
 pub mod TableFiles
+pub mod TypedFiles
 pub mod Top
 pub mod Unpadded
 pub mod Words

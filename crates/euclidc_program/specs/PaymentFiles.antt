@@ -1,5 +1,5 @@
 -- The file of a payment.
-use Rattle.std.specs.Prelude.{ℕ, List}
+use Rattle.std.specs.Prelude.{ℕ, List, codes}
 use Rattle.serde_json.specs.Data.{string}
 use Rattle.serde_json.specs.Written.{compact_text}
 use Rattle.shelf_io.specs.Seen.{Name, Files}
@@ -13,7 +13,7 @@ use Rattle.euclidc_program.specs.Runs.{Run, file}
 
 -- the line of a refusal, with the path as a JSON string
 abbrev pub payment_refusal : PaymentError → List ℕ
-payment_refusal error = refusal role.Payment error.code (compact_text (string error.path))
+payment_refusal error = refusal (codes "payment") error.code (compact_text (string error.path))
 
 abbrev pub payment_file : Table → Name → Files → Run Entries
 payment_file table = file role.Payment payment_refusal (payment_of table)

@@ -3,9 +3,9 @@ use Rattle.std.specs.Prelude.{ℕ, List, ◌∷◌, ◌++◌, codes, decimal}
 use Rattle.euclidc_program.specs.declared.role.Role.{Role}
 use Rattle.euclidc_program.specs.Roles.{word_of}
 
--- the word of the file, the code of its fault, and the place
-abbrev pub refusal : Role → ℕ → List ℕ → List ℕ
-refusal role code place = codes "refused " ++ (word_of role ++ 32 ∷ (decimal code ++ 32 ∷ (place ++ codes "\n")))
+-- what is refused, the code of its fault, and the place
+abbrev pub refusal : List ℕ → ℕ → List ℕ → List ℕ
+refusal what code place = codes "refused " ++ (what ++ 32 ∷ (decimal code ++ 32 ∷ (place ++ codes "\n")))
 
 -- the line of a file that is longer than its limit
 abbrev pub too_long : Role → List ℕ

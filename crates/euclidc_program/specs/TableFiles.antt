@@ -21,7 +21,7 @@ key_text (Some key) = decimal key
 
 -- the line of a refusal
 abbrev pub table_refusal : TableError → List ℕ
-table_refusal error = refusal role.Table error.code (key_text error.key)
+table_refusal error = refusal (codes "table") error.code (key_text error.key)
 
 abbrev pub table_file : Name → Files → Run Table
 table_file = file role.Table table_refusal table_of

@@ -16,6 +16,7 @@ mod table_file;
 #[cfg(test)]
 mod tests;
 mod top;
+mod typed_file;
 mod words;
 
 use run::run;

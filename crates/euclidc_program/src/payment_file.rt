@@ -35,7 +35,7 @@ fn refused_payment(alloc: Global, error: &PaymentError) -> Halt
     ensures { HaltsWith result (payment_refusal error.now) Refused }
 {
     match write_string(alloc, &error.path) {
-        Ok(path) => refused(alloc, Role::Payment, error.code, path.as_str()),
+        Ok(path) => refused(alloc, "payment", error.code, path.as_str()),
         Err(NoMemory) => Halt::NoMemory,
     }
 }

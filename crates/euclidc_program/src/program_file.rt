@@ -1,34 +1,72 @@
-ghost use Rattle.std.specs.Prelude.{◌≤◌, [], ◌∷◌, codes, length, IfOk};
+ghost use Rattle.std.specs.Prelude.{◌≡◌, ◌<◌, [], ◌∷◌, length, position, IfOk, IfSome};
+ghost use Rattle.euclid_ast.specs.Limits.{IsWithinLimits};
 ghost use Rattle.euclidc_program.specs.declared.status.Verdict.TheVariants.{Refused};
-ghost use Rattle.euclidc_program.specs.ProgramFiles.{program_file};
+ghost use Rattle.euclidc_program.specs.ProgramFiles.{is_sign, is_json, form, json_fault, program_refusal, program_file};
 ghost use Rattle.euclidc_program.specs.Stages.{Gives, HaltsWith};
 
 use crate::answer::Halt;
 use crate::file::read_file;
+use crate::refusal::refused;
 use crate::role::Role;
 use crate::status::Verdict;
 use euclid_ast::Program;
-use json_program::read_json;
-use key_table::{Stop, Text};
+use json_program::{JsonError, read_json, write_string};
+use key_table::{NoMemory, Stop, Text};
 use shelf_io::Shelf;
 use std::alloc::Global;
 
-/// The program in a file.
+/// The program in a file, which is within the limits.
 pub fn read_program<F: Shelf>(alloc: Global, shelf: &mut F, name: &str) -> Result<Program, Halt>
     ensures stage { Gives (λ p. p) (program_file name.now) (name.now ∷ []) (F.seen shelf.old) (F.seen shelf.new) result }
-    ensures few { IfOk result (λ p. length p.rules ≤ 256) }
+    ensures within { IfOk result (λ p. IsWithinLimits p) }
 {
     let bytes = read_file(alloc, shelf, name, Role::Program)?;
+    if !is_json(&bytes) {
+        return Err(unbuilt_form(alloc));
+    }
     match read_json(alloc, &bytes) {
         Ok(program) => Ok(program),
         Err(Stop::Memory) => Err(Halt::NoMemory),
-        Err(Stop::Fault(_)) => Err(unbuilt_program(alloc)),
+        Err(Stop::Fault(error)) => Err(refused_json(alloc, &error)),
     }
 }
 
-fn unbuilt_program(alloc: Global) -> Halt
-    ensures { HaltsWith result (codes "refused program unbuilt\n") Refused }
+// Whether a file is JSON, and else a text.
+fn is_json(bytes: &[u8]) -> bool
+    ensures { result ≡ is_json bytes.now }
+{
+    match first_sign(bytes) {
+        Some(place) => bytes[place] == b'{',
+        None => false,
+    }
+}
+
+// Where the first byte stands that is no blank.
+fn first_sign(bytes: &[u8]) -> Option<usize>
+    ensures place { result ≡ position is_sign bytes.now }
+    ensures within { IfSome result (λ place. place < length bytes.now) }
+{
+    bytes.iter().position(|byte| is_sign(*byte))
+}
+
+fn is_sign(byte: u8) -> bool
+    ensures { result ≡ is_sign byte }
+{
+    !matches!(byte, b'\t' | b'\n' | b'\r' | b' ')
+}
+
+fn unbuilt_form(alloc: Global) -> Halt
+    ensures { HaltsWith result (program_refusal form) Refused }
 {
     let text = Text::from_str(alloc, "refused program unbuilt\n");
     Halt::with(text, Verdict::Refused)
+}
+
+fn refused_json(alloc: Global, error: &JsonError) -> Halt
+    ensures { HaltsWith result (program_refusal (json_fault error.now)) Refused }
+{
+    match write_string(alloc, &error.path) {
+        Ok(path) => refused(alloc, "program json", error.code, path.as_str()),
+        Err(NoMemory) => Halt::NoMemory,
+    }
 }

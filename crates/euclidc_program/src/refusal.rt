@@ -9,11 +9,11 @@ use crate::status::Verdict;
 use key_table::{NoMemory, Text};
 use std::alloc::Global;
 
-/// The answer that refuses a file: one line with the file's role, the code of its fault and the place.
-pub fn refused(alloc: Global, role: Role, code: u8, place: &str) -> Halt
-    ensures { HaltsWith result (refusal role code place.now) Refused }
+/// The answer that refuses a file: one line with what is refused, the code of its fault and the place.
+pub fn refused(alloc: Global, what: &str, code: u8, place: &str) -> Halt
+    ensures { HaltsWith result (refusal what.now code place.now) Refused }
 {
-    Halt::with(refused_line(alloc, role, code, place), Verdict::Refused)
+    Halt::with(refused_line(alloc, what, code, place), Verdict::Refused)
 }
 
 /// The answer where a file is longer than its limit: one line with the file's role.
@@ -23,11 +23,10 @@ pub fn too_long(alloc: Global, role: Role) -> Halt
     Halt::with(too_long_line(alloc, role), Verdict::TooLong)
 }
 
-fn refused_line(alloc: Global, role: Role, code: u8, place: &str) -> Result<Text, NoMemory>
-    ensures { IfOk result (λ t. t ≡ refusal role code place.now) }
+fn refused_line(alloc: Global, what: &str, code: u8, place: &str) -> Result<Text, NoMemory>
+    ensures { IfOk result (λ t. t ≡ refusal what.now code place.now) }
 {
-    let word = role.word();
-    let text = format!(in alloc; "refused {word} {code} {place}\n")?;
+    let text = format!(in alloc; "refused {what} {code} {place}\n")?;
     Ok(Text::from(text))
 }
 

@@ -43,7 +43,7 @@ fn refused_table(alloc: Global, error: TableError) -> Halt
     ensures { HaltsWith result (table_refusal error) Refused }
 {
     match key_text(alloc, error.key) {
-        Ok(key) => refused(alloc, Role::Table, error.code, key.as_str()),
+        Ok(key) => refused(alloc, "table", error.code, key.as_str()),
         Err(_) => Halt::NoMemory,
     }
 }

@@ -1,14 +1,17 @@
 use crate::status::Status;
 use crate::top::euclidc;
 use shelf_io::{MemShelf, MemSink, Shelf};
+use std::alloc::{AllocError, Global};
 use std::process::Abort;
 use std::str;
 use std::test::Fail;
 
-// Whole commands. A case begins with the number of its status and with what is written: one line, or a word for one of
-// the texts below. Its other lines are
+// Whole commands. A case begins with the number of its status and with what is written: one line, a word for one of the
+// texts below, or the selection of the default where that decides. Its other lines are
 //     $ WORD ..        the words of the command, with `_` for an empty one; each such line is a command of its own
-//     NAME TEXT        a file, where `*` is the program below
+//     NAME TEXT        a file, where `^` is a line end, and a backtick a byte that no text has. PROGRAM is the program below,
+//                      `PROGRAM OLD -> NEW` that program with NEW for OLD, `IF COMPARISON` the one with this comparison in
+//                      place of its own, EMPTY a program without rules, and KEYS the keys below
 //     NAME:N TEXT      a file with spaces behind the text, up to so many bytes
 //     ! N              the read with this number fails, counted from 1
 //     ~                the sink stops after each byte in turn
@@ -39,7 +42,7 @@ $ sample 4294967296
 $ sample 18446744073709551616
 $ sample
 ! 1
-P *
+P PROGRAM
 PAY {}
 ===
 3 refused command unbuilt
@@ -52,7 +55,7 @@ $ convert P json
 $ convert P text
 $ sample 4294967295
 ! 1
-P *
+P PROGRAM
 ===
 2 USAGE
 $ decide
@@ -61,37 +64,22 @@ $ decide
 0 CARDS
 $ decide - P PAY
 ~
-P *
+P PROGRAM
 PAY {"payment_method":"card"}
 ===
 0 DEFAULT
 $ decide - P PAY
 ~
-P *
+P PROGRAM
 PAY {}
 ===
 3 refused payment 1 ""
 $ decide - P PAY
 ~
-P *
+P PROGRAM
 PAY [
 ===
-0 DEFAULT
-$ decide - P PAY
-P *
-PAY {"payment_method":null}
-===
-0 CARDS
-$ decide - P PAY
-P *
-PAY {"payment_method":"wallet","payment_method":"card"}
-===
-0 DEFAULT
-$ decide - P PAY
-P *
-PAY {"amount":5,"card_bin":"4242","metadata":{"tier":"gold"}}
-===
-3 refused program unbuilt
+3 refused payment 1 ""
 $ decide - P PAY
 P {"defaultSelection":{"type":"none"},"rules":[]}
 PAY [
@@ -100,74 +88,10 @@ PAY [
 $ decide - P PAY
 P [
 ===
-3 refused program unbuilt
-$ decide - P PAY
-P {"defaultSelection":{"type":"priority","data":[{"connector":"stripe"}]},"rules":[{"name":"cards","connectorSelection":{"type":"priority","data":[{"connector":"adyen"}]},"statements":[{"condition":[{"lhs":"payment_method","comparison":"not_equal","value":{"type":"enum_variant","value":"card"}}]}]}]}
-PAY {}
-===
 3 refused payment 3 ""
 $ decide - P PAY
-P *
+P PROGRAM
 PAY []
-===
-3 refused payment 3 "/amount"
-$ decide - P PAY
-P *
-PAY {"amount":"5"}
-===
-3 refused payment 3 "/metadata/a\"~1b"
-$ decide - P PAY
-P *
-PAY {"metadata":{"a\"/b":1}}
-===
-3 refused payment 4 "/amount"
-$ decide - P PAY
-P *
-PAY {"amount":1.5}
-===
-3 refused payment 6 "/colour"
-$ decide - P PAY
-P *
-PAY {"zone":1,"colour":null}
-===
-3 refused payment 7 "/payment_method"
-$ decide - P PAY
-P *
-PAY {"payment_method":"Card"}
-===
-3 refused payment 7 "/currency"
-$ decide - P PAY
-P *
-PAY {"currency":"XXX"}
-===
-3 refused payment 8 "/amount"
-$ decide - P PAY
-P *
-PAY {"amount":-1}
-===
-0 CARDS
-$ decide K P PAY
-K key = [{ name = "payment_method", kind = "enum", variants = ["cash", "card"] }]
-P *
-PAY {"payment_method":"card"}
-===
-0 DEFAULT
-$ decide K P PAY
-K key = [{ name = "payment_method", kind = "enum", variants = ["cash", "card"] }]
-P *
-PAY {"payment_method":"cash"}
-===
-0 DEFAULT
-$ decide K P PAY
-K other = 1
-P *
-PAY {}
-===
-3 refused payment 6 "/payment_method"
-$ decide K P PAY
-K other = 1
-P *
-PAY {"payment_method":"card"}
 ===
 3 refused table 1 -
 $ decide K P PAY
@@ -175,37 +99,9 @@ K [
 P [
 PAY [
 ===
-3 refused table 1 -
-$ decide K P PAY
-K [
-===
-3 refused table 2 0
-$ decide K P PAY
-K key = [{ name = "amount", kind = "float" }]
-P *
-PAY {}
-===
-3 refused table 3 0
-$ decide K P PAY
-K key = [{ name = "a b", kind = "text" }]
-P *
-PAY {}
-===
-3 refused table 4 1
-$ decide K P PAY
-K key = [{ name = "amount", kind = "number" }, { name = "amount", kind = "number" }]
-P *
-PAY {}
-===
-3 refused table 5 0
-$ decide K P PAY
-K key = [{ name = "amount", kind = "number", min = 10, max = 5 }]
-P *
-PAY {}
-===
 5
 $ decide K P PAY
-P *
+P PROGRAM
 PAY {}
 ===
 5
@@ -219,71 +115,71 @@ PAY [
 ===
 5
 $ decide - P PAY
-P *
+P PROGRAM
 ===
 5
 $ decide K P PAY
 ! 1
 K other = 1
-P *
+P EMPTY
 PAY {}
 ===
 5
 $ decide K P PAY
 ! 2
 K other = 1
-P *
+P EMPTY
 PAY {}
 ===
 5
 $ decide K P PAY
 ! 3
 K other = 1
-P *
+P EMPTY
 PAY {}
 ===
 0 DEFAULT
 $ decide K P PAY
 ! 4
 K other = 1
-P *
+P EMPTY
 PAY {}
 ===
 5
 $ decide - P PAY
 ! 1
-P *
+P PROGRAM
 PAY {}
 ===
 5
 $ decide - P PAY
 ! 2
-P *
+P PROGRAM
 PAY {}
 ===
 0 DEFAULT
 $ decide - P PAY
 ! 3
-P *
+P PROGRAM
 PAY {}
 ===
 0 DEFAULT
 $ decide K P PAY
 K:1048576 other = 1
-P:1048576 *
+P:1048576 EMPTY
 PAY:1048576 {}
 ===
 3 refused table 2 0
 $ decide K P PAY
 K:1048576 key = [{ name = "amount", kind = "float" }]
 ===
-3 refused program unbuilt
+3 refused program json 1 ""
 $ decide - P PAY
-P:1048576 [
+P:1048576 {
 ===
 3 refused payment 1 ""
 $ decide - P PAY
-P *
+P PROGRAM
 PAY:1048576 [
 ===
 4 toolong table
@@ -293,17 +189,496 @@ P [
 ===
 4 toolong program
 $ decide - P PAY
-P:1048577 *
+P:1048577 PROGRAM
 PAY [
 ===
 4 toolong payment
 $ decide - P PAY
-P *
+P PROGRAM
 PAY:1048577 {}
 "#;
 
+// Decisions. A line begins with the number of its status and with what is written, as above. Behind the arrows stand the key
+// table, where `-` is the built-in one, the program and the payment. In all of them `|N*ITEM|` stands for so many items, and a
+// `#` in an item for the number of the items that follow.
+const DECISIONS: &str =
+    r##"0 CARDS <- - <- PROGRAM <- {"payment_method":"card","payment_method_type":"credit","card_network":"Visa","authentication_type":"three_ds","capture_method":"automatic","currency":"USD","billing_country":"US","amount":0,"card_bin":"","business_label":"a","metadata":{"a":"b"}}
+0 DEFAULT <- - <- PROGRAM <- {"payment_method":"wallet","payment_method_type":"debit","card_network":"Mastercard","authentication_type":"no_three_ds","capture_method":"manual","currency":"EUR","billing_country":"GB","amount":9223372036854775807}
+0 DEFAULT <- - <- PROGRAM <- {"payment_method":"bank_transfer","payment_method_type":"google_pay","card_network":"AmericanExpress","currency":"GBP","billing_country":"DE"}
+0 DEFAULT <- - <- PROGRAM <- {"payment_method":"bank_redirect","payment_method_type":"apple_pay","card_network":"Discover","currency":"INR","billing_country":"FR"}
+0 DEFAULT <- - <- PROGRAM <- {"payment_method":"pay_later","payment_method_type":"paypal","card_network":"JCB","currency":"NOK","billing_country":"IN"}
+0 DEFAULT <- - <- PROGRAM <- {"payment_method_type":"klarna","currency":"JPY","billing_country":"NO"}
+0 DEFAULT <- - <- PROGRAM <- {"payment_method_type":"ach","billing_country":"JP"}
+0 DEFAULT <- - <- PROGRAM <- {"payment_method_type":"sepa"}
+0 DEFAULT <- - <- PROGRAM <- {"payment_method_type":"ideal"}
+3 refused payment 7 "/payment_method" <- - <- PROGRAM <- {"payment_method":"cash"}
+0 DEFAULT <-  <- EMPTY <- {}
+3 refused payment 6 "/amount" <-  <- EMPTY <- {"amount":1}
+0 DEFAULT <- other = 1 <- EMPTY <- {}
+0 DEFAULT <- key = [] <- EMPTY <- {}
+0 DEFAULT <- [[key]]^name = "_a9"^kind = "metadata"^colour = "red" <- EMPTY <- {"_a9":{"a":"b"}}
+0 DEFAULT <- key = [{ name = "a", kind = "text" }, { name = "A", kind = "enum", variants = [] }] <- EMPTY <- {"a":"b"}
+3 refused payment 7 "/A" <- key = [{ name = "a", kind = "text" }, { name = "A", kind = "enum", variants = [] }] <- EMPTY <- {"A":"b"}
+3 refused table 1 - <- [ <- EMPTY <- {}
+3 refused table 1 - <- [[key]]^name = "a"^name = "b"^kind = "text" <- EMPTY <- {}
+3 refused table 1 - <- key = [1]^[[key]]^name = "a" <- EMPTY <- {}
+3 refused table 1 - <- [[key]]^name = "a"^kind = "number"^max = 9223372036854775808 <- EMPTY <- {}
+3 refused table 1 - <- [[key]]^name = "a"^kind = "number"^min = -9223372036854775809 <- EMPTY <- {}
+3 refused table 2 0 <- key = 1 <- EMPTY <- {}
+3 refused table 2 0 <- [key]^name = "a" <- EMPTY <- {}
+3 refused table 2 1 <- key = [{ name = "a", kind = "text" }, "b"] <- EMPTY <- {}
+3 refused table 3 0 <- [[key]]^kind = "text" <- EMPTY <- {}
+3 refused table 3 0 <- [[key]]^name = 1 <- EMPTY <- {}
+3 refused table 3 0 <- [[key]]^name = "" <- EMPTY <- {}
+3 refused table 3 0 <- [[key]]^name = "a b" <- EMPTY <- {}
+3 refused table 3 0 <- [[key]]^name = "9a" <- EMPTY <- {}
+3 refused table 3 0 <- [[key]]^name = "é" <- EMPTY <- {}
+3 refused table 4 1 <- [[key]]^name = "a"^kind = "text"^[[key]]^name = "a"^kind = "float" <- EMPTY <- {}
+3 refused table 4 2 <- [[key]]^name = "a"^kind = "text"^[[key]]^name = "b"^kind = "text"^[[key]]^name = "a"^kind = "text" <- EMPTY <- {}
+3 refused table 2 0 <- [[key]]^name = "a" <- EMPTY <- {}
+3 refused table 2 0 <- [[key]]^name = "a"^kind = 1 <- EMPTY <- {}
+3 refused table 2 0 <- [[key]]^name = "a"^kind = "float" <- EMPTY <- {}
+3 refused table 2 0 <- [[key]]^name = "a"^kind = "Enum" <- EMPTY <- {}
+3 refused table 2 0 <- [[key]]^name = "a"^kind = "enum" <- EMPTY <- {}
+3 refused table 2 0 <- [[key]]^name = "a"^kind = "enum"^variants = "b" <- EMPTY <- {}
+3 refused table 2 0 <- [[key]]^name = "a"^kind = "enum"^variants = ["b", 1] <- EMPTY <- {}
+3 refused table 3 0 <- [[key]]^name = "a"^kind = "enum"^variants = ["b", "c-d"] <- EMPTY <- {}
+3 refused table 4 0 <- [[key]]^name = "a"^kind = "enum"^variants = ["b", "c", "b"] <- EMPTY <- {}
+3 refused table 2 0 <- [[key]]^name = "a"^kind = "number"^min = 1.0 <- EMPTY <- {}
+3 refused table 2 0 <- [[key]]^name = "a"^kind = "number"^min = 1979-05-27 <- EMPTY <- {}
+3 refused table 2 0 <- [[key]]^name = "a"^kind = "number"^min = 5^max = true <- EMPTY <- {}
+3 refused table 5 0 <- [[key]]^name = "a"^kind = "number"^min = 6^max = 5 <- EMPTY <- {}
+3 refused payment 8 "/a" <- [[key]]^name = "a"^kind = "number"^min = 5^max = 5 <- EMPTY <- {"a":4}
+0 DEFAULT <- [[key]]^name = "a"^kind = "number"^min = 5^max = 5 <- EMPTY <- {"a":5}
+3 refused payment 8 "/a" <- [[key]]^name = "a"^kind = "number"^min = 5^max = 5 <- EMPTY <- {"a":6}
+0 DEFAULT <- [[key]]^name = "a"^kind = "number"^min = -9223372036854775808^max = 9223372036854775807 <- EMPTY <- {"a":-9223372036854775808}
+0 DEFAULT <- [[key]]^name = "a"^kind = "number"^min = -9223372036854775808^max = 9223372036854775807 <- EMPTY <- {"a":9223372036854775807}
+0 DEFAULT <- [[key]]^name = "a"^kind = "text"^min = 6^max = "5"^variants = 1 <- EMPTY <- {"a":"b"}
+0 DEFAULT <- [[key]]^name = "a"^kind = "number"^max = 7 <- EMPTY <- {"a":-9223372036854775808}
+3 refused payment 8 "/a" <- [[key]]^name = "a"^kind = "number"^max = 7 <- EMPTY <- {"a":8}
+3 refused payment 8 "/b" <- [[key]]^name = "b"^kind = "number"^min = 7^[[key]]^name = "a"^kind = "enum"^variants = ["c", "d"] <- EMPTY <- {"b":6}
+0 DEFAULT <- [[key]]^name = "b"^kind = "number"^min = 7^[[key]]^name = "a"^kind = "enum"^variants = ["c", "d"] <- EMPTY <- {"b":9223372036854775807,"a":"d"}
+3 refused payment 7 "/a" <- [[key]]^name = "b"^kind = "number"^min = 7^[[key]]^name = "a"^kind = "enum"^variants = ["c", "d"] <- EMPTY <- {"a":"e"}
+0 DEFAULT <- key = [|256*{ name = "k#", kind = "text" }, |] <- EMPTY <- {"k0":"a","k255":"a"}
+3 refused table 6 256 <- key = [|257*{ name = "k#", kind = "text" }, |] <- EMPTY <- {}
+3 refused table 6 256 <- key = [|256*{ name = "k#", kind = "text" }, |"b"] <- EMPTY <- {}
+3 refused table 2 0 <- key = [{ name = "a", kind = "float" }, |256*{ name = "k#", kind = "text" }, |] <- EMPTY <- {}
+0 DEFAULT <- key = [{ name = "a", kind = "enum", variants = [|1024*"v#", |] }] <- EMPTY <- {"a":"v0"}
+3 refused payment 7 "/a" <- key = [{ name = "a", kind = "enum", variants = [|1024*"v#", |] }] <- EMPTY <- {"a":"v1024"}
+3 refused table 6 0 <- key = [{ name = "a", kind = "enum", variants = [|1025*"v#", |] }] <- EMPTY <- {}
+3 refused table 6 0 <- key = [{ name = "a", kind = "enum", variants = [1, |1024*"v#", |] }] <- EMPTY <- {}
+0 DEFAULT <- key = [{ name = "|255*n|", kind = "enum", variants = ["|255*v|"] }] <- EMPTY <- {"|255*n|":"|255*v|"}
+3 refused table 6 0 <- key = [{ name = "|256*n|", kind = "text" }] <- EMPTY <- {}
+3 refused table 3 0 <- key = [{ name = "|255*n| ", kind = "text" }] <- EMPTY <- {}
+3 refused table 6 0 <- key = [{ name = "a", kind = "enum", variants = ["|256*v|"] }] <- EMPTY <- {}
+3 refused table 3 0 <- key = [{ name = "a", kind = "enum", variants = ["|255*v| "] }] <- EMPTY <- {}
+3 refused table 1 - <- a = "`" <- EMPTY <- {}
+3 refused payment 1 "" <- KEYS <- PROGRAM <- [
+3 refused payment 1 "" <- KEYS <- PROGRAM <- {"amount":1}x
+3 refused payment 3 "" <- KEYS <- PROGRAM <- []
+3 refused payment 3 "" <- KEYS <- PROGRAM <- null
+3 refused payment 6 "/colour" <- KEYS <- PROGRAM <- {"colour":"red"}
+3 refused payment 6 "/colour" <- KEYS <- PROGRAM <- {"colour":null}
+3 refused payment 6 "/Amount" <- KEYS <- PROGRAM <- {"Amount":1}
+3 refused payment 6 "/colour" <- KEYS <- PROGRAM <- {"zone":1,"colour":2}
+3 refused payment 6 "/a~1b~0" <- KEYS <- PROGRAM <- {"a/b~":1}
+3 refused payment 3 "/currency" <- KEYS <- PROGRAM <- {"zone":1,"currency":1}
+3 refused payment 3 "/currency" <- KEYS <- PROGRAM <- {"currency":0}
+3 refused payment 7 "/currency" <- KEYS <- PROGRAM <- {"currency":"XXX"}
+3 refused payment 7 "/currency" <- KEYS <- PROGRAM <- {"currency":"usd"}
+3 refused payment 7 "/currency" <- KEYS <- PROGRAM <- {"currency":"US"}
+3 refused payment 7 "/currency" <- KEYS <- PROGRAM <- {"currency":""}
+3 refused payment 7 "/currency" <- KEYS <- PROGRAM <- {"metadata":{"a":1},"currency":"XXX"}
+3 refused payment 3 "/amount" <- KEYS <- PROGRAM <- {"amount":"5"}
+3 refused payment 3 "/amount" <- KEYS <- PROGRAM <- {"amount":{"amount":5}}
+3 refused payment 4 "/amount" <- KEYS <- PROGRAM <- {"amount":1.5}
+3 refused payment 4 "/amount" <- KEYS <- PROGRAM <- {"amount":1e3}
+3 refused payment 4 "/amount" <- KEYS <- PROGRAM <- {"amount":9223372036854775808}
+3 refused payment 8 "/amount" <- KEYS <- PROGRAM <- {"amount":-1}
+3 refused payment 8 "/amount" <- KEYS <- PROGRAM <- {"colour":1,"amount":-1}
+3 refused payment 8 "/age" <- KEYS <- PROGRAM <- {"age":9}
+3 refused payment 8 "/age" <- KEYS <- PROGRAM <- {"age":21}
+3 refused payment 3 "/card_bin" <- KEYS <- PROGRAM <- {"card_bin":400000}
+3 refused payment 3 "/card_bin" <- KEYS <- PROGRAM <- {"card_bin":{"a":"b"}}
+3 refused payment 9 "/card_bin" <- KEYS <- PROGRAM <- {"card_bin":"|1025*a|"}
+3 refused payment 9 "/card_bin" <- KEYS <- PROGRAM <- {"card_bin":"|257*😀|"}
+3 refused payment 3 "/metadata" <- KEYS <- PROGRAM <- {"metadata":"a"}
+3 refused payment 3 "/metadata" <- KEYS <- PROGRAM <- {"metadata":["a"]}
+3 refused payment 3 "/metadata/a" <- KEYS <- PROGRAM <- {"metadata":{"a":1}}
+3 refused payment 3 "/metadata/" <- KEYS <- PROGRAM <- {"metadata":{"":{}}}
+3 refused payment 3 "/metadata/~0~1\"" <- KEYS <- PROGRAM <- {"metadata":{"~/\"":false}}
+3 refused payment 3 "/metadata/b" <- KEYS <- PROGRAM <- {"metadata":{"c":2,"b":1,"a":"1"}}
+3 refused payment 9 "/metadata/s" <- KEYS <- PROGRAM <- {"metadata":{"s":"|1025*a|"}}
+3 refused payment 9 "/metadata/s" <- KEYS <- PROGRAM <- {"metadata":{"s":"|257*😀|"}}
+3 refused payment 9 "/metadata/|256*a|" <- KEYS <- PROGRAM <- {"metadata":{"|256*a|":"t"}}
+3 refused payment 9 "/metadata/|256*a|" <- KEYS <- PROGRAM <- {"metadata":{"|256*a|":null}}
+3 refused payment 9 "/metadata/|256*a|" <- KEYS <- PROGRAM <- {"metadata":{"|256*a|":1}}
+3 refused payment 9 "/metadata/|64*😀|" <- KEYS <- PROGRAM <- {"metadata":{"|64*😀|":"t"}}
+3 refused payment 8 "/tip" <- KEYS <- PROGRAM <- {"tip":-1,"metadata":{|4095*"#":"t",|"z":"t"}}
+3 refused payment 5 "/metadata" <- KEYS <- PROGRAM <- {"metadata":{|4096*"#":"t",|"z":"t"}}
+3 refused payment 5 "/metadata" <- KEYS <- PROGRAM <- {"metadata":{|4096*"#":null,|"z":null}}
+3 refused payment 5 "/metadata" <- KEYS <- PROGRAM <- {"metadata":{|4096*"#":1,|"z":1}}
+3 refused payment 1 "" <- KEYS <- PROGRAM <- {"card_bin":"`"}
+0 CARDS <- KEYS <- PROGRAM <- {"payment_method":"card","age":10,"card_bin":"|1024*a|","metadata":{"|255*a|":"|1024*b|"}}
+0 DEFAULT <- KEYS <- PROGRAM <- {"age":20,"amount":9223372036854775807,"card_bin":"|256*😀|"}
+0 DEFAULT <- - <- PROGRAM <- {"payment_method":null}
+0 CARDS <- - <- PROGRAM <- {"payment_method":"wallet","payment_method":"card"}
+0 DEFAULT <- - <- PROGRAM <- {"amount":5,"card_bin":"4242","metadata":{"tier":"gold"}}
+3 refused payment 3 "/amount" <- - <- PROGRAM <- {"amount":"5"}
+3 refused payment 3 "/metadata/a\"~1b" <- - <- PROGRAM <- {"metadata":{"a\"/b":1}}
+3 refused payment 4 "/amount" <- - <- PROGRAM <- {"amount":1.5}
+3 refused payment 6 "/colour" <- - <- PROGRAM <- {"zone":1,"colour":null}
+3 refused payment 7 "/payment_method" <- - <- PROGRAM <- {"payment_method":"Card"}
+3 refused payment 7 "/currency" <- - <- PROGRAM <- {"currency":"XXX"}
+3 refused payment 8 "/amount" <- - <- PROGRAM <- {"amount":-1}
+0 CARDS <- key = [{ name = "payment_method", kind = "enum", variants = ["cash", "card"] }] <- PROGRAM <- {"payment_method":"card"}
+0 DEFAULT <- key = [{ name = "payment_method", kind = "enum", variants = ["cash", "card"] }] <- PROGRAM <- {"payment_method":"cash"}
+3 refused payment 6 "/payment_method" <- other = 1 <- EMPTY <- {"payment_method":"card"}
+3 refused table 2 0 <- key = [{ name = "amount", kind = "float" }] <- EMPTY <- {}
+3 refused table 3 0 <- key = [{ name = "a b", kind = "text" }] <- EMPTY <- {}
+3 refused table 4 1 <- key = [{ name = "amount", kind = "number" }, { name = "amount", kind = "number" }] <- EMPTY <- {}
+3 refused table 5 0 <- key = [{ name = "amount", kind = "number", min = 10, max = 5 }] <- EMPTY <- {}
+3 refused payment 1 "" <- KEYS <- PROGRAM <- {"amount":1e999}
+3 refused payment 1 "" <- KEYS <- PROGRAM <- {"amount":01}
+3 refused payment 1 "" <- KEYS <- PROGRAM <- {"amount":nul}
+0 CARDS <- - <- IF {"lhs":"amount","comparison":"equal","value":{"type":"number","value":5}} <- {"amount":5}
+0 DEFAULT <- - <- IF {"lhs":"amount","comparison":"equal","value":{"type":"number","value":5}} <- {"amount":4}
+0 DEFAULT <- - <- IF {"lhs":"amount","comparison":"equal","value":{"type":"number","value":5}} <- {}
+0 DEFAULT <- - <- IF {"lhs":"amount","comparison":"not_equal","value":{"type":"number","value":5}} <- {"amount":5}
+0 CARDS <- - <- IF {"lhs":"amount","comparison":"not_equal","value":{"type":"number","value":5}} <- {"amount":4}
+0 DEFAULT <- - <- IF {"lhs":"amount","comparison":"not_equal","value":{"type":"number","value":5}} <- {}
+0 DEFAULT <- - <- IF {"lhs":"amount","comparison":"less_than","value":{"type":"number","value":5}} <- {"amount":5}
+0 CARDS <- - <- IF {"lhs":"amount","comparison":"less_than","value":{"type":"number","value":5}} <- {"amount":4}
+0 DEFAULT <- - <- IF {"lhs":"amount","comparison":"less_than","value":{"type":"number","value":5}} <- {}
+0 CARDS <- - <- IF {"lhs":"amount","comparison":"less_than_equal","value":{"type":"number","value":5}} <- {"amount":5}
+0 CARDS <- - <- IF {"lhs":"amount","comparison":"less_than_equal","value":{"type":"number","value":5}} <- {"amount":4}
+0 DEFAULT <- - <- IF {"lhs":"amount","comparison":"less_than_equal","value":{"type":"number","value":5}} <- {}
+0 DEFAULT <- - <- IF {"lhs":"amount","comparison":"greater_than","value":{"type":"number","value":5}} <- {"amount":5}
+0 DEFAULT <- - <- IF {"lhs":"amount","comparison":"greater_than","value":{"type":"number","value":5}} <- {"amount":4}
+0 DEFAULT <- - <- IF {"lhs":"amount","comparison":"greater_than","value":{"type":"number","value":5}} <- {}
+0 CARDS <- - <- IF {"lhs":"amount","comparison":"greater_than_equal","value":{"type":"number","value":5}} <- {"amount":5}
+0 DEFAULT <- - <- IF {"lhs":"amount","comparison":"greater_than_equal","value":{"type":"number","value":5}} <- {"amount":4}
+0 DEFAULT <- - <- IF {"lhs":"amount","comparison":"greater_than_equal","value":{"type":"number","value":5}} <- {}
+0 CARDS <- - <- IF {"lhs":"payment_method","comparison":"equal","value":{"type":"enum_variant","value":"card"}} <- {"payment_method":"card"}
+0 DEFAULT <- - <- IF {"lhs":"payment_method","comparison":"equal","value":{"type":"enum_variant","value":"card"}} <- {"payment_method":"wallet"}
+0 DEFAULT <- - <- IF {"lhs":"payment_method","comparison":"equal","value":{"type":"enum_variant","value":"card"}} <- {}
+0 DEFAULT <- - <- IF {"lhs":"payment_method","comparison":"not_equal","value":{"type":"enum_variant","value":"card"}} <- {"payment_method":"card"}
+0 CARDS <- - <- IF {"lhs":"payment_method","comparison":"not_equal","value":{"type":"enum_variant","value":"card"}} <- {"payment_method":"wallet"}
+0 DEFAULT <- - <- IF {"lhs":"payment_method","comparison":"not_equal","value":{"type":"enum_variant","value":"card"}} <- {}
+3 refused program type 3 0 0 <- - <- IF {"lhs":"payment_method","comparison":"less_than","value":{"type":"enum_variant","value":"card"}} <- {"payment_method":"card"}
+3 refused program type 3 0 0 <- - <- IF {"lhs":"payment_method","comparison":"less_than_equal","value":{"type":"enum_variant","value":"card"}} <- {"payment_method":"card"}
+3 refused program type 3 0 0 <- - <- IF {"lhs":"payment_method","comparison":"greater_than","value":{"type":"enum_variant","value":"card"}} <- {"payment_method":"card"}
+3 refused program type 3 0 0 <- - <- IF {"lhs":"payment_method","comparison":"greater_than_equal","value":{"type":"enum_variant","value":"card"}} <- {"payment_method":"card"}
+0 CARDS <- - <- IF {"lhs":"metadata","comparison":"equal","value":{"type":"metadata_variant","value":{"key":"tier","value":"gold"}}} <- {"metadata":{"tier":"gold"}}
+0 DEFAULT <- - <- IF {"lhs":"metadata","comparison":"equal","value":{"type":"metadata_variant","value":{"key":"tier","value":"gold"}}} <- {"metadata":{"tier":"blue"}}
+0 DEFAULT <- - <- IF {"lhs":"metadata","comparison":"equal","value":{"type":"metadata_variant","value":{"key":"tier","value":"gold"}}} <- {}
+0 DEFAULT <- - <- IF {"lhs":"metadata","comparison":"not_equal","value":{"type":"metadata_variant","value":{"key":"tier","value":"gold"}}} <- {"metadata":{"tier":"gold"}}
+0 CARDS <- - <- IF {"lhs":"metadata","comparison":"not_equal","value":{"type":"metadata_variant","value":{"key":"tier","value":"gold"}}} <- {"metadata":{"tier":"blue"}}
+0 DEFAULT <- - <- IF {"lhs":"metadata","comparison":"not_equal","value":{"type":"metadata_variant","value":{"key":"tier","value":"gold"}}} <- {}
+3 refused program type 3 0 0 <- - <- IF {"lhs":"metadata","comparison":"less_than","value":{"type":"metadata_variant","value":{"key":"tier","value":"gold"}}} <- {"metadata":{"tier":"gold"}}
+3 refused program type 3 0 0 <- - <- IF {"lhs":"metadata","comparison":"less_than_equal","value":{"type":"metadata_variant","value":{"key":"tier","value":"gold"}}} <- {"metadata":{"tier":"gold"}}
+3 refused program type 3 0 0 <- - <- IF {"lhs":"metadata","comparison":"greater_than","value":{"type":"metadata_variant","value":{"key":"tier","value":"gold"}}} <- {"metadata":{"tier":"gold"}}
+3 refused program type 3 0 0 <- - <- IF {"lhs":"metadata","comparison":"greater_than_equal","value":{"type":"metadata_variant","value":{"key":"tier","value":"gold"}}} <- {"metadata":{"tier":"gold"}}
+0 CARDS <- - <- IF {"lhs":"card_bin","comparison":"equal","value":{"type":"str_value","value":"42"}} <- {"card_bin":"42"}
+0 DEFAULT <- - <- IF {"lhs":"card_bin","comparison":"equal","value":{"type":"str_value","value":"42"}} <- {"card_bin":"421"}
+0 DEFAULT <- - <- IF {"lhs":"card_bin","comparison":"equal","value":{"type":"str_value","value":"42"}} <- {}
+0 DEFAULT <- - <- IF {"lhs":"card_bin","comparison":"not_equal","value":{"type":"str_value","value":"42"}} <- {"card_bin":"42"}
+0 CARDS <- - <- IF {"lhs":"card_bin","comparison":"not_equal","value":{"type":"str_value","value":"42"}} <- {"card_bin":"421"}
+0 DEFAULT <- - <- IF {"lhs":"card_bin","comparison":"not_equal","value":{"type":"str_value","value":"42"}} <- {}
+3 refused program type 3 0 0 <- - <- IF {"lhs":"card_bin","comparison":"less_than","value":{"type":"str_value","value":"42"}} <- {"card_bin":"42"}
+3 refused program type 3 0 0 <- - <- IF {"lhs":"card_bin","comparison":"less_than_equal","value":{"type":"str_value","value":"42"}} <- {"card_bin":"42"}
+3 refused program type 3 0 0 <- - <- IF {"lhs":"card_bin","comparison":"greater_than","value":{"type":"str_value","value":"42"}} <- {"card_bin":"42"}
+3 refused program type 3 0 0 <- - <- IF {"lhs":"card_bin","comparison":"greater_than_equal","value":{"type":"str_value","value":"42"}} <- {"card_bin":"42"}
+0 CARDS <- - <- IF {"lhs":"amount","comparison":"equal","value":{"type":"number_array","value":[4,5]}} <- {"amount":5}
+0 DEFAULT <- - <- IF {"lhs":"amount","comparison":"equal","value":{"type":"number_array","value":[4,5]}} <- {"amount":6}
+0 DEFAULT <- - <- IF {"lhs":"amount","comparison":"equal","value":{"type":"number_array","value":[4,5]}} <- {}
+0 DEFAULT <- - <- IF {"lhs":"amount","comparison":"not_equal","value":{"type":"number_array","value":[4,5]}} <- {"amount":5}
+0 CARDS <- - <- IF {"lhs":"amount","comparison":"not_equal","value":{"type":"number_array","value":[4,5]}} <- {"amount":6}
+0 DEFAULT <- - <- IF {"lhs":"amount","comparison":"not_equal","value":{"type":"number_array","value":[4,5]}} <- {}
+3 refused program type 3 0 0 <- - <- IF {"lhs":"amount","comparison":"less_than","value":{"type":"number_array","value":[4,5]}} <- {"amount":5}
+3 refused program type 3 0 0 <- - <- IF {"lhs":"amount","comparison":"less_than_equal","value":{"type":"number_array","value":[4,5]}} <- {"amount":5}
+3 refused program type 3 0 0 <- - <- IF {"lhs":"amount","comparison":"greater_than","value":{"type":"number_array","value":[4,5]}} <- {"amount":5}
+3 refused program type 3 0 0 <- - <- IF {"lhs":"amount","comparison":"greater_than_equal","value":{"type":"number_array","value":[4,5]}} <- {"amount":5}
+0 CARDS <- - <- IF {"lhs":"payment_method","comparison":"equal","value":{"type":"enum_variant_array","value":["wallet","card"]}} <- {"payment_method":"card"}
+0 DEFAULT <- - <- IF {"lhs":"payment_method","comparison":"equal","value":{"type":"enum_variant_array","value":["wallet","card"]}} <- {"payment_method":"pay_later"}
+0 DEFAULT <- - <- IF {"lhs":"payment_method","comparison":"equal","value":{"type":"enum_variant_array","value":["wallet","card"]}} <- {}
+0 DEFAULT <- - <- IF {"lhs":"payment_method","comparison":"not_equal","value":{"type":"enum_variant_array","value":["wallet","card"]}} <- {"payment_method":"card"}
+0 CARDS <- - <- IF {"lhs":"payment_method","comparison":"not_equal","value":{"type":"enum_variant_array","value":["wallet","card"]}} <- {"payment_method":"pay_later"}
+0 DEFAULT <- - <- IF {"lhs":"payment_method","comparison":"not_equal","value":{"type":"enum_variant_array","value":["wallet","card"]}} <- {}
+3 refused program type 3 0 0 <- - <- IF {"lhs":"payment_method","comparison":"less_than","value":{"type":"enum_variant_array","value":["wallet","card"]}} <- {"payment_method":"card"}
+3 refused program type 3 0 0 <- - <- IF {"lhs":"payment_method","comparison":"less_than_equal","value":{"type":"enum_variant_array","value":["wallet","card"]}} <- {"payment_method":"card"}
+3 refused program type 3 0 0 <- - <- IF {"lhs":"payment_method","comparison":"greater_than","value":{"type":"enum_variant_array","value":["wallet","card"]}} <- {"payment_method":"card"}
+3 refused program type 3 0 0 <- - <- IF {"lhs":"payment_method","comparison":"greater_than_equal","value":{"type":"enum_variant_array","value":["wallet","card"]}} <- {"payment_method":"card"}
+0 CARDS <- - <- IF {"lhs":"amount","comparison":"equal","value":{"type":"number_comparison_array","value":[{"comparisonType":"greater_than","number":10},{"comparison_type":"less_than","number":3}]}} <- {"amount":2}
+0 DEFAULT <- - <- IF {"lhs":"amount","comparison":"equal","value":{"type":"number_comparison_array","value":[{"comparisonType":"greater_than","number":10},{"comparison_type":"less_than","number":3}]}} <- {"amount":5}
+0 DEFAULT <- - <- IF {"lhs":"amount","comparison":"equal","value":{"type":"number_comparison_array","value":[{"comparisonType":"greater_than","number":10},{"comparison_type":"less_than","number":3}]}} <- {}
+0 DEFAULT <- - <- IF {"lhs":"amount","comparison":"not_equal","value":{"type":"number_comparison_array","value":[{"comparisonType":"greater_than","number":10},{"comparison_type":"less_than","number":3}]}} <- {"amount":2}
+0 CARDS <- - <- IF {"lhs":"amount","comparison":"not_equal","value":{"type":"number_comparison_array","value":[{"comparisonType":"greater_than","number":10},{"comparison_type":"less_than","number":3}]}} <- {"amount":5}
+0 DEFAULT <- - <- IF {"lhs":"amount","comparison":"not_equal","value":{"type":"number_comparison_array","value":[{"comparisonType":"greater_than","number":10},{"comparison_type":"less_than","number":3}]}} <- {}
+3 refused program type 3 0 0 <- - <- IF {"lhs":"amount","comparison":"less_than","value":{"type":"number_comparison_array","value":[{"comparisonType":"greater_than","number":10},{"comparison_type":"less_than","number":3}]}} <- {"amount":2}
+3 refused program type 3 0 0 <- - <- IF {"lhs":"amount","comparison":"less_than_equal","value":{"type":"number_comparison_array","value":[{"comparisonType":"greater_than","number":10},{"comparison_type":"less_than","number":3}]}} <- {"amount":2}
+3 refused program type 3 0 0 <- - <- IF {"lhs":"amount","comparison":"greater_than","value":{"type":"number_comparison_array","value":[{"comparisonType":"greater_than","number":10},{"comparison_type":"less_than","number":3}]}} <- {"amount":2}
+3 refused program type 3 0 0 <- - <- IF {"lhs":"amount","comparison":"greater_than_equal","value":{"type":"number_comparison_array","value":[{"comparisonType":"greater_than","number":10},{"comparison_type":"less_than","number":3}]}} <- {"amount":2}
+0 DEFAULT <- - <- IF {"lhs":"amount","comparison":"equal","value":{"type":"number_array","value":[]}} <- {"amount":5,"payment_method":"card"}
+0 CARDS <- - <- IF {"lhs":"amount","comparison":"not_equal","value":{"type":"number_array","value":[]}} <- {"amount":5,"payment_method":"card"}
+0 DEFAULT <- - <- IF {"lhs":"payment_method","comparison":"equal","value":{"type":"enum_variant_array","value":[]}} <- {"amount":5,"payment_method":"card"}
+0 CARDS <- - <- IF {"lhs":"payment_method","comparison":"not_equal","value":{"type":"enum_variant_array","value":[]}} <- {"amount":5,"payment_method":"card"}
+0 DEFAULT <- - <- IF {"lhs":"amount","comparison":"equal","value":{"type":"number_comparison_array","value":[]}} <- {"amount":5,"payment_method":"card"}
+0 CARDS <- - <- IF {"lhs":"amount","comparison":"not_equal","value":{"type":"number_comparison_array","value":[]}} <- {"amount":5,"payment_method":"card"}
+0 CARDS <- - <- IF {"lhs":"amount","comparison":"greater_than_equal","value":{"type":"number","value":9223372036854775807}} <- {"amount":9223372036854775807}
+0 DEFAULT <- - <- IF {"lhs":"amount","comparison":"greater_than","value":{"type":"number","value":9223372036854775807}} <- {"amount":9223372036854775807}
+0 DEFAULT <- - <- IF {"lhs":"metadata","comparison":"equal","value":{"type":"metadata_variant","value":{"key":"tier","value":"gold"}}} <- {"metadata":{"level":"gold"}}
+3 refused program unbuilt <- - <- |0*x| <- {}
+3 refused program unbuilt <- - <- [] <- {}
+3 refused program unbuilt <- - <- null <- {}
+3 refused program unbuilt <- - <- 5 <- {}
+3 refused program unbuilt <- - <- "default" <- {}
+3 refused program unbuilt <- - <- default: none <- {}
+3 refused program unbuilt <- - <-  ^ <- {}
+3 refused program json 1 "" <- - <- { <- {}
+3 refused program json 1 "" <- - <- PROGRAM ]}]} -> ]}]}, <- {}
+3 refused program json 1 "" <- - <- PROGRAM stripe -> ` <- {}
+3 refused program json 1 "" <- - <- ^ { <- {}
+3 refused program json 2 "/defaultSelection" <- - <- {} <- {}
+0 CARDS <- - <- ^ {"defaultSelection":{"type":"priority","data":[{"connector":"stripe"}]},"rules":[{"name":"cards","connectorSelection":{"type":"priority","data":[{"connector":"adyen"}]},"statements":[{"condition":[{"lhs":"payment_method","comparison":"equal","value":{"type":"enum_variant","value":"card"}}]}]}]} <- {"payment_method":"card"}
+0 CARDS <- - <- {"type":"advanced","data":{"defaultSelection":{"type":"priority","data":[{"connector":"stripe"}]},"rules":[{"name":"cards","connectorSelection":{"type":"priority","data":[{"connector":"adyen"}]},"statements":[{"condition":[{"lhs":"payment_method","comparison":"equal","value":{"type":"enum_variant","value":"card"}}]}]}]}} <- {"payment_method":"card"}
+3 refused program json 2 "/data" <- - <- PROGRAM {"default -> {"type":"advanced","default <- {}
+0 CARDS <- - <- PROGRAM {"default -> {"type":"other","default <- {"payment_method":"card"}
+0 CARDS <- - <- PROGRAM {"default -> {"type":null,"default <- {"payment_method":"card"}
+0 CARDS <- - <- PROGRAM {"default -> {"type":7,"default <- {"payment_method":"card"}
+3 refused program json 3 "/data" <- - <- {"type":"advanced","data":null} <- {}
+3 refused program json 3 "/data" <- - <- {"type":"advanced","data":[]} <- {}
+3 refused program json 3 "/data" <- - <- {"type":"advanced","data":7} <- {}
+3 refused program json 3 "/data" <- - <- {"type":"advanced","data":"x"} <- {}
+3 refused program json 2 "/data/defaultSelection" <- - <- {"type":"advanced","data":{"type":"advanced","data":{"defaultSelection":{"type":"priority","data":[{"connector":"stripe"}]},"rules":[{"name":"cards","connectorSelection":{"type":"priority","data":[{"connector":"adyen"}]},"statements":[{"condition":[{"lhs":"payment_method","comparison":"equal","value":{"type":"enum_variant","value":"card"}}]}]}]}}} <- {}
+3 refused program json 7 "/data/rules/0/statements/0/condition/0/comparison" <- - <- {"type":"advanced","data":{"defaultSelection":{"type":"priority","data":[{"connector":"stripe"}]},"rules":[{"name":"cards","connectorSelection":{"type":"priority","data":[{"connector":"adyen"}]},"statements":[{"condition":[{"lhs":"payment_method","comparison":"is","value":{"type":"enum_variant","value":"card"}}]}]}]}} <- {}
+0 CARDS <- - <- PROGRAM "defaultSelection": -> "defaultSelection":null,"defaultSelection": <- {"payment_method":"card"}
+3 refused program json 3 "/defaultSelection" <- - <- PROGRAM "defaultSelection": -> "defaultSelection":null,"metadata": <- {}
+3 refused program json 3 "/defaultSelection" <- - <- PROGRAM "defaultSelection": -> "defaultSelection":true,"metadata": <- {}
+3 refused program json 2 "/defaultSelection" <- - <- PROGRAM "defaultSelection": -> "metadata": <- {}
+0 CARDS <- - <- PROGRAM "data":[{"connector":"stripe" -> "data":null,"data":[{"connector":"stripe" <- {"payment_method":"card"}
+3 refused program json 3 "/defaultSelection/data" <- - <- PROGRAM "data":[{"connector":"stripe" -> "data":null,"metadata":[{"connector":"stripe" <- {}
+3 refused program json 3 "/defaultSelection/data" <- - <- PROGRAM "data":[{"connector":"stripe" -> "data":true,"metadata":[{"connector":"stripe" <- {}
+3 refused program json 2 "/defaultSelection/data" <- - <- PROGRAM "data":[{"connector":"stripe" -> "metadata":[{"connector":"stripe" <- {}
+0 CARDS <- - <- PROGRAM "connector":"stripe" -> "connector":null,"connector":"stripe" <- {"payment_method":"card"}
+3 refused program json 3 "/defaultSelection/data/0/connector" <- - <- PROGRAM "connector":"stripe" -> "connector":null,"metadata":"stripe" <- {}
+3 refused program json 3 "/defaultSelection/data/0/connector" <- - <- PROGRAM "connector":"stripe" -> "connector":true,"metadata":"stripe" <- {}
+3 refused program json 2 "/defaultSelection/data/0/connector" <- - <- PROGRAM "connector":"stripe" -> "metadata":"stripe" <- {}
+0 CARDS <- - <- PROGRAM "rules": -> "rules":null,"rules": <- {"payment_method":"card"}
+3 refused program json 3 "/rules" <- - <- PROGRAM "rules": -> "rules":null,"metadata": <- {}
+3 refused program json 3 "/rules" <- - <- PROGRAM "rules": -> "rules":true,"metadata": <- {}
+3 refused program json 2 "/rules" <- - <- PROGRAM "rules": -> "metadata": <- {}
+0 CARDS <- - <- PROGRAM "name": -> "name":null,"name": <- {"payment_method":"card"}
+3 refused program json 3 "/rules/0/name" <- - <- PROGRAM "name": -> "name":null,"metadata": <- {}
+3 refused program json 3 "/rules/0/name" <- - <- PROGRAM "name": -> "name":true,"metadata": <- {}
+3 refused program json 2 "/rules/0/name" <- - <- PROGRAM "name": -> "metadata": <- {}
+0 CARDS <- - <- PROGRAM "connectorSelection": -> "connectorSelection":null,"connectorSelection": <- {"payment_method":"card"}
+3 refused program json 3 "/rules/0/connectorSelection" <- - <- PROGRAM "connectorSelection": -> "connectorSelection":null,"metadata": <- {}
+3 refused program json 3 "/rules/0/connectorSelection" <- - <- PROGRAM "connectorSelection": -> "connectorSelection":true,"metadata": <- {}
+3 refused program json 2 "/rules/0/connectorSelection" <- - <- PROGRAM "connectorSelection": -> "metadata": <- {}
+0 CARDS <- - <- PROGRAM "statements": -> "statements":null,"statements": <- {"payment_method":"card"}
+3 refused program json 3 "/rules/0/statements" <- - <- PROGRAM "statements": -> "statements":null,"metadata": <- {}
+3 refused program json 3 "/rules/0/statements" <- - <- PROGRAM "statements": -> "statements":true,"metadata": <- {}
+3 refused program json 2 "/rules/0/statements" <- - <- PROGRAM "statements": -> "metadata": <- {}
+0 CARDS <- - <- PROGRAM "condition": -> "condition":null,"condition": <- {"payment_method":"card"}
+3 refused program json 3 "/rules/0/statements/0/condition" <- - <- PROGRAM "condition": -> "condition":null,"metadata": <- {}
+3 refused program json 3 "/rules/0/statements/0/condition" <- - <- PROGRAM "condition": -> "condition":true,"metadata": <- {}
+3 refused program json 2 "/rules/0/statements/0/condition" <- - <- PROGRAM "condition": -> "metadata": <- {}
+0 CARDS <- - <- PROGRAM "lhs": -> "lhs":null,"lhs": <- {"payment_method":"card"}
+3 refused program json 3 "/rules/0/statements/0/condition/0/lhs" <- - <- PROGRAM "lhs": -> "lhs":null,"metadata": <- {}
+3 refused program json 3 "/rules/0/statements/0/condition/0/lhs" <- - <- PROGRAM "lhs": -> "lhs":true,"metadata": <- {}
+3 refused program json 2 "/rules/0/statements/0/condition/0/lhs" <- - <- PROGRAM "lhs": -> "metadata": <- {}
+0 CARDS <- - <- PROGRAM "comparison": -> "comparison":null,"comparison": <- {"payment_method":"card"}
+3 refused program json 3 "/rules/0/statements/0/condition/0/comparison" <- - <- PROGRAM "comparison": -> "comparison":null,"metadata": <- {}
+3 refused program json 3 "/rules/0/statements/0/condition/0/comparison" <- - <- PROGRAM "comparison": -> "comparison":true,"metadata": <- {}
+3 refused program json 2 "/rules/0/statements/0/condition/0/comparison" <- - <- PROGRAM "comparison": -> "metadata": <- {}
+0 CARDS <- - <- PROGRAM "value":{ -> "value":null,"value":{ <- {"payment_method":"card"}
+3 refused program json 3 "/rules/0/statements/0/condition/0/value" <- - <- PROGRAM "value":{ -> "value":null,"metadata":{ <- {}
+3 refused program json 3 "/rules/0/statements/0/condition/0/value" <- - <- PROGRAM "value":{ -> "value":true,"metadata":{ <- {}
+3 refused program json 2 "/rules/0/statements/0/condition/0/value" <- - <- PROGRAM "value":{ -> "metadata":{ <- {}
+0 CARDS <- - <- PROGRAM "type":"priority","data":[{"connector":"stripe" -> "type":null,"type":"priority","data":[{"connector":"stripe" <- {"payment_method":"card"}
+3 refused program json 3 "/defaultSelection/type" <- - <- PROGRAM "type":"priority","data":[{"connector":"stripe" -> "type":null,"metadata":"priority","data":[{"connector":"stripe" <- {}
+3 refused program json 3 "/defaultSelection/type" <- - <- PROGRAM "type":"priority","data":[{"connector":"stripe" -> "type":true,"metadata":"priority","data":[{"connector":"stripe" <- {}
+3 refused program json 2 "/defaultSelection/type" <- - <- PROGRAM "type":"priority","data":[{"connector":"stripe" -> "metadata":"priority","data":[{"connector":"stripe" <- {}
+0 CARDS <- - <- PROGRAM "type":"enum_variant" -> "type":null,"type":"enum_variant" <- {"payment_method":"card"}
+3 refused program json 3 "/rules/0/statements/0/condition/0/value/type" <- - <- PROGRAM "type":"enum_variant" -> "type":null,"metadata":"enum_variant" <- {}
+3 refused program json 3 "/rules/0/statements/0/condition/0/value/type" <- - <- PROGRAM "type":"enum_variant" -> "type":true,"metadata":"enum_variant" <- {}
+3 refused program json 2 "/rules/0/statements/0/condition/0/value/type" <- - <- PROGRAM "type":"enum_variant" -> "metadata":"enum_variant" <- {}
+0 CARDS <- - <- PROGRAM "value":"card" -> "value":null,"value":"card" <- {"payment_method":"card"}
+3 refused program json 3 "/rules/0/statements/0/condition/0/value/value" <- - <- PROGRAM "value":"card" -> "value":null,"metadata":"card" <- {}
+3 refused program json 3 "/rules/0/statements/0/condition/0/value/value" <- - <- PROGRAM "value":"card" -> "value":true,"metadata":"card" <- {}
+3 refused program json 2 "/rules/0/statements/0/condition/0/value/value" <- - <- PROGRAM "value":"card" -> "metadata":"card" <- {}
+0 DEFAULT <- - <- PROGRAM "rules":[ -> "rules":[|255*{"name":"r","connectorSelection":{"type":"none"},"statements":[]},| <- {}
+3 refused program json 5 "/rules" <- - <- PROGRAM "rules":[ -> "rules":[|256*{"name":"r","connectorSelection":{"type":"none"},"statements":[]},| <- {}
+0 CARDS <- - <- PROGRAM "statements":[ -> "statements":[|16383*{"condition":[]},| <- {}
+3 refused program json 5 "/rules/0/statements" <- - <- PROGRAM "statements":[ -> "statements":[|16384*{"condition":[]},| <- {}
+3 refused program json 5 "/rules/1/statements/0" <- - <- PROGRAM "rules":[ -> "rules":[{"name":"r","connectorSelection":{"type":"none"},"statements":[|16383*{"condition":[]},|{"condition":[]}]}, <- {}
+3 refused program json 5 "/rules/0/statements/0/nested/16383" <- - <- PROGRAM "statements":[ -> "statements":[{"condition":[],"nested":[|16383*{"condition":[]},|{"condition":[]}]}, <- {}
+0 CARDS <- - <- PROGRAM "condition" -> |31*"nested":[{"condition":[],|"condition":[]|31*}]|,"condition" <- {"payment_method":"card"}
+3 refused program json 5 "/rules/0/statements/0|32*/nested/0|" <- - <- PROGRAM "condition" -> |32*"nested":[{"condition":[],|"condition":[]|32*}]|,"condition" <- {}
+0 DEFAULT <- - <- PROGRAM "condition" -> "nested":[],"condition" <- {"payment_method":"card"}
+0 CARDS <- - <- PROGRAM "condition" -> "nested":[{"condition":[]}],"condition" <- {"payment_method":"card"}
+0 CARDS <- - <- PROGRAM "condition" -> "nested":null,"condition" <- {"payment_method":"card"}
+3 refused program json 3 "/rules/0/statements/0/nested" <- - <- PROGRAM "condition" -> "nested":false,"condition" <- {}
+0 CARDS <- - <- PROGRAM {"default -> {"metadata":|126*[||126*]|,"default <- {"payment_method":"card"}
+3 refused program json 1 "" <- - <- PROGRAM {"default -> {"metadata":|127*[||127*]|,"default <- {}
+0 CARDS <- - <- PROGRAM connectorSelection -> routingOutput <- {"payment_method":"card"}
+0 CARDS <- - <- PROGRAM "connectorSelection -> "routingOutput":null,"connectorSelection <- {"payment_method":"card"}
+3 refused program json 3 "/rules/0/connectorSelection" <- - <- PROGRAM "connectorSelection" -> "connectorSelection":null,"routingOutput" <- {}
+0 CARDS <- - <- PROGRAM "adyen" -> "adyen","merchant_connector_id":null <- {"payment_method":"card"}
+3 refused program json 3 "/rules/0/connectorSelection/data/0/merchant_connector_id" <- - <- PROGRAM "adyen" -> "adyen","merchant_connector_id":1 <- {}
+3 refused program json 3 "/rules/0/routingOutput/data" <- - <- PROGRAM "connectorSelection":{"type":"priority","data":[{"connector":"adyen"}]} -> "routingOutput":{"type":"priority","data":7} <- {}
+0 DEFAULT <- - <- PROGRAM "cards" -> "|127*é|a" <- {}
+3 refused program json 5 "/rules/0/name" <- - <- PROGRAM "cards" -> "|128*é|" <- {}
+3 refused program type 1 0 0 <- - <- PROGRAM "payment_method" -> "|127*é|a" <- {}
+3 refused program json 5 "/rules/0/statements/0/condition/0/lhs" <- - <- PROGRAM "payment_method" -> "|128*é|" <- {}
+3 refused program type 4 0 0 <- - <- PROGRAM "card" -> "|127*é|a" <- {}
+3 refused program json 5 "/rules/0/statements/0/condition/0/value/value" <- - <- PROGRAM "card" -> "|128*é|" <- {}
+0 CARDS <- - <- PROGRAM "stripe" -> "|127*é|a" <- {"payment_method":"card"}
+3 refused program json 5 "/defaultSelection/data/0/connector" <- - <- PROGRAM "stripe" -> "|128*é|" <- {}
+0 CARDS <- - <- PROGRAM "stripe" -> "stripe","merchant_connector_id":"|127*é|a" <- {"payment_method":"card"}
+3 refused program json 5 "/defaultSelection/data/0/merchant_connector_id" <- - <- PROGRAM "stripe" -> "stripe","merchant_connector_id":"|128*é|" <- {}
+0 CARDS <- - <- PROGRAM {"connector":"stripe"} -> |4095*{"connector":"stripe"},|{"connector":"stripe"} <- {"payment_method":"card"}
+3 refused program json 5 "/defaultSelection/data" <- - <- PROGRAM {"connector":"stripe"} -> |4096*{"connector":"stripe"},|{"connector":"stripe"} <- {}
+0 DEFAULT <- - <- IF {"lhs":"amount","comparison":"equal","value":{"type":"number_array","value":[|4095*#,|0]}} <- {}
+3 refused program json 5 "/rules/0/statements/0/condition/0/value/value" <- - <- IF {"lhs":"amount","comparison":"equal","value":{"type":"number_array","value":[|4096*#,|0]}} <- {}
+0 DEFAULT <- - <- IF {"lhs":"payment_method","comparison":"equal","value":{"type":"enum_variant_array","value":[|4095*"card",|"card"]}} <- {}
+3 refused program json 5 "/rules/0/statements/0/condition/0/value/value" <- - <- IF {"lhs":"payment_method","comparison":"equal","value":{"type":"enum_variant_array","value":[|4096*"card",|"card"]}} <- {}
+0 DEFAULT <- - <- IF {"lhs":"amount","comparison":"equal","value":{"type":"number_comparison_array","value":[|4095*{"comparisonType":"equal","number":1},|{"comparisonType":"equal","number":1}]}} <- {}
+3 refused program json 5 "/rules/0/statements/0/condition/0/value/value" <- - <- IF {"lhs":"amount","comparison":"equal","value":{"type":"number_comparison_array","value":[|4096*{"comparisonType":"equal","number":1},|{"comparisonType":"equal","number":1}]}} <- {}
+3 refused program json 5 "/rules/0/statements/0/condition/0/value/value/1" <- - <- IF {"lhs":"payment_method","comparison":"equal","value":{"type":"enum_variant_array","value":["card","|256*a|"]}} <- {}
+3 refused program json 5 "/rules/0/statements/0/condition/0/value/value" <- - <- IF {"lhs":"card_bin","comparison":"equal","value":{"type":"str_value","value":"|256*a|"}} <- {}
+3 refused program json 5 "/rules/0/statements/0/condition/0/value/value" <- - <- IF {"lhs":"card_bin","comparison":"equal","value":{"type":"enum_variant","value":"|256*a|"}} <- {}
+3 refused program json 5 "/rules/0/statements/0/condition/0/value/value/key" <- - <- IF {"lhs":"metadata","comparison":"equal","value":{"type":"metadata_variant","value":{"key":"|256*a|","value":"|256*a|"}}} <- {}
+3 refused program json 5 "/rules/0/statements/0/condition/0/value/value/value" <- - <- IF {"lhs":"metadata","comparison":"equal","value":{"type":"metadata_variant","value":{"key":"a","value":"|256*a|"}}} <- {}
+3 refused program json 3 "/rules/0/statements/0/condition/0/value/value" <- - <- IF {"lhs":"amount","comparison":"equal","value":{"type":"number","value":"card"}} <- {}
+3 refused program json 3 "/rules/0/statements/0/condition/0/value/value" <- - <- IF {"lhs":"amount","comparison":"equal","value":{"type":"number","value":null}} <- {}
+3 refused program json 4 "/rules/0/statements/0/condition/0/value/value" <- - <- IF {"lhs":"amount","comparison":"equal","value":{"type":"number","value":1.0}} <- {}
+3 refused program json 4 "/rules/0/statements/0/condition/0/value/value" <- - <- IF {"lhs":"amount","comparison":"equal","value":{"type":"number","value":1e2}} <- {}
+3 refused program json 4 "/rules/0/statements/0/condition/0/value/value" <- - <- IF {"lhs":"amount","comparison":"equal","value":{"type":"number","value":9223372036854775808}} <- {}
+3 refused program json 3 "/rules/0/statements/0/condition/0/value/value/1" <- - <- IF {"lhs":"amount","comparison":"equal","value":{"type":"number_array","value":[1,"2"]}} <- {}
+3 refused program json 4 "/rules/0/statements/0/condition/0/value/value/0" <- - <- IF {"lhs":"amount","comparison":"equal","value":{"type":"number_array","value":[1.5,"2"]}} <- {}
+3 refused program json 3 "/rules/0/statements/0/condition/0/value/value" <- - <- IF {"lhs":"amount","comparison":"equal","value":{"type":"number_array","value":5}} <- {}
+3 refused program json 3 "/rules/0/statements/0/condition/0/value/value/0" <- - <- IF {"lhs":"amount","comparison":"equal","value":{"type":"number_comparison_array","value":[5]}} <- {}
+3 refused program json 2 "/rules/0/statements/0/condition/0/value/value/key" <- - <- IF {"lhs":"metadata","comparison":"equal","value":{"type":"metadata_variant","value":{"value":"a"}}} <- {}
+3 refused program json 2 "/rules/0/statements/0/condition/0/value/value/value" <- - <- IF {"lhs":"metadata","comparison":"equal","value":{"type":"metadata_variant","value":{"key":"a"}}} <- {}
+3 refused program json 6 "/rules/0/statements/0/condition/0/value/type" <- - <- IF {"lhs":"amount","comparison":"equal","value":{"type":"float","value":[]}} <- {}
+3 refused program json 6 "/rules/0/statements/0/condition/0/value/type" <- - <- IF {"lhs":"amount","comparison":"equal","value":{"type":"Number"}} <- {}
+3 refused program json 7 "/rules/0/statements/0/condition/0/comparison" <- - <- IF {"lhs":"amount","comparison":"is","value":{"type":"number","value":5}} <- {}
+3 refused program json 7 "/rules/0/statements/0/condition/0/comparison" <- - <- IF {"lhs":"amount","comparison":"EQUAL","value":{"type":"number","value":5}} <- {}
+3 refused program json 7 "/rules/0/statements/0/condition/0/comparison" <- - <- IF {"lhs":"amount","comparison":"equals","value":{"type":"number","value":5}} <- {}
+3 refused program json 7 "/rules/0/statements/0/condition/0/comparison" <- - <- IF {"lhs":"amount","comparison":"<","value":{"type":"number","value":5}} <- {}
+0 CARDS <- - <- IF {"lhs":"amount","comparison":"equal","value":{"type":"number_comparison_array","value":[{"comparisonType":"equal","comparison_type":"less_than","number":5}]}} <- {"amount":5}
+3 refused program json 3 "/rules/0/statements/0/condition/0/value/value/0/comparisonType" <- - <- IF {"lhs":"amount","comparison":"equal","value":{"type":"number_comparison_array","value":[{"comparisonType":null,"comparison_type":"equal","number":5}]}} <- {}
+3 refused program json 2 "/rules/0/statements/0/condition/0/value/value/0/comparisonType" <- - <- IF {"lhs":"amount","comparison":"equal","value":{"type":"number_comparison_array","value":[{"number":5}]}} <- {}
+3 refused program json 7 "/rules/0/statements/0/condition/0/value/value/0/comparison_type" <- - <- IF {"lhs":"amount","comparison":"equal","value":{"type":"number_comparison_array","value":[{"comparison_type":"is","number":5}]}} <- {}
+3 refused program json 2 "/rules/0/statements/0/condition/0/value/value/0/number" <- - <- IF {"lhs":"amount","comparison":"equal","value":{"type":"number_comparison_array","value":[{"comparison_type":"equal"}]}} <- {}
+3 refused program json 4 "/rules/0/statements/0/condition/0/value/value/0/number" <- - <- IF {"lhs":"amount","comparison":"equal","value":{"type":"number_comparison_array","value":[{"comparison_type":"equal","number":0.5}]}} <- {}
+0 {"data":[],"type":"priority"} <- - <- {"defaultSelection":{"type":"priority","data":[]},"rules":[]} <- {}
+0 {"data":[{"connector":"b","merchant_connector_id":"mca_1"},{"connector":"a","merchant_connector_id":null}],"type":"priority"} <- - <- {"defaultSelection":{"type":"priority","data":[{"connector":"b","merchant_connector_id":"mca_1"},{"connector":"a"}]},"rules":[]} <- {}
+0 {"data":[{"connector":"a\"b","merchant_connector_id":"a\"b"}],"type":"priority"} <- - <- {"defaultSelection":{"type":"priority","data":[{"connector":"a\u0022b","merchant_connector_id":"a\u0022b"}]},"rules":[]} <- {}
+0 {"data":[{"connector":"c\\d/é","merchant_connector_id":"c\\d/é"}],"type":"priority"} <- - <- {"defaultSelection":{"type":"priority","data":[{"connector":"c\\d\/\u00e9","merchant_connector_id":"c\\d\/\u00e9"}]},"rules":[]} <- {}
+0 {"data":[{"connector":"\n\t\r\b\f","merchant_connector_id":"\n\t\r\b\f"}],"type":"priority"} <- - <- {"defaultSelection":{"type":"priority","data":[{"connector":"\n\t\r\b\f","merchant_connector_id":"\n\t\r\b\f"}]},"rules":[]} <- {}
+0 {"data":[{"connector":"\u0000\u001f","merchant_connector_id":"\u0000\u001f"}],"type":"priority"} <- - <- {"defaultSelection":{"type":"priority","data":[{"connector":"\u0000\u001F","merchant_connector_id":"\u0000\u001F"}]},"rules":[]} <- {}
+0 {"data":[{"connector":"é€😀","merchant_connector_id":"é€😀"}],"type":"priority"} <- - <- {"defaultSelection":{"type":"priority","data":[{"connector":"é€\ud83d\ude00","merchant_connector_id":"é€\ud83d\ude00"}]},"rules":[]} <- {}
+0 {"data":[],"type":"volume_split"} <- - <- {"defaultSelection":{"type":"volume_split","data":[]},"rules":[]} <- {}
+0 {"data":[{"connector":{"connector":"stripe","merchant_connector_id":"mca_1"},"split":60},{"connector":{"connector":"adyen","merchant_connector_id":null},"split":40}],"type":"volume_split"} <- - <- {"defaultSelection":{"type":"volume_split","data":[{"connector":{"connector":"stripe","merchant_connector_id":"mca_1"},"split":60},{"connector":{"connector":"adyen"},"split":40}]},"rules":[]} <- {}
+0 {"data":{"amount":0},"type":"surcharge_fixed"} <- - <- {"defaultSelection":{"type":"surcharge_fixed","data":{"amount":0}},"rules":[]} <- {}
+0 {"data":{"amount":9223372036854775807},"type":"surcharge_fixed"} <- - <- {"defaultSelection":{"type":"surcharge_fixed","data":{"amount":9223372036854775807}},"rules":[]} <- {}
+0 {"data":{"basis_points":0},"type":"surcharge_rate"} <- - <- {"defaultSelection":{"type":"surcharge_rate","data":{"basis_points":0}},"rules":[]} <- {}
+0 {"data":{"basis_points":10000},"type":"surcharge_rate"} <- - <- {"defaultSelection":{"type":"surcharge_rate","data":{"basis_points":10000}},"rules":[]} <- {}
+0 {"data":{"decision":"three_ds"},"type":"three_ds"} <- - <- {"defaultSelection":{"type":"three_ds","data":{"decision":"three_ds"}},"rules":[]} <- {}
+0 {"data":{"decision":"no_three_ds"},"type":"three_ds"} <- - <- {"defaultSelection":{"type":"three_ds","data":{"decision":"no_three_ds"}},"rules":[]} <- {}
+0 {"type":"none"} <- - <- {"defaultSelection":{"type":"none"},"rules":[]} <- {}
+0 {"type":"none"} <- - <- {"defaultSelection":{"type":"none","data":7},"rules":[]} <- {}
+3 refused program json 3 "/defaultSelection/data/amount" <- - <- {"defaultSelection":{"type":"surcharge_fixed","data":{"amount":-1}},"rules":[]} <- {}
+3 refused program json 4 "/defaultSelection/data/amount" <- - <- {"defaultSelection":{"type":"surcharge_fixed","data":{"amount":1.0}},"rules":[]} <- {}
+3 refused program json 4 "/defaultSelection/data/amount" <- - <- {"defaultSelection":{"type":"surcharge_fixed","data":{"amount":1e2}},"rules":[]} <- {}
+3 refused program json 4 "/defaultSelection/data/amount" <- - <- {"defaultSelection":{"type":"surcharge_fixed","data":{"amount":9223372036854775808}},"rules":[]} <- {}
+3 refused program json 3 "/defaultSelection/data/amount" <- - <- {"defaultSelection":{"type":"surcharge_fixed","data":{"amount":"5"}},"rules":[]} <- {}
+3 refused program json 3 "/defaultSelection/data/basis_points" <- - <- {"defaultSelection":{"type":"surcharge_rate","data":{"basis_points":-1}},"rules":[]} <- {}
+3 refused program json 3 "/defaultSelection/data/basis_points" <- - <- {"defaultSelection":{"type":"surcharge_rate","data":{"basis_points":10001}},"rules":[]} <- {}
+3 refused program json 4 "/defaultSelection/data/basis_points" <- - <- {"defaultSelection":{"type":"surcharge_rate","data":{"basis_points":1.0}},"rules":[]} <- {}
+3 refused program json 3 "/defaultSelection/data/basis_points" <- - <- {"defaultSelection":{"type":"surcharge_rate","data":{"basis_points":null}},"rules":[]} <- {}
+3 refused program json 3 "/defaultSelection/data/decision" <- - <- {"defaultSelection":{"type":"three_ds","data":{"decision":"ThreeDs"}},"rules":[]} <- {}
+3 refused program json 3 "/defaultSelection/data/decision" <- - <- {"defaultSelection":{"type":"three_ds","data":{"decision":true}},"rules":[]} <- {}
+3 refused program json 2 "/defaultSelection/data/amount" <- - <- {"defaultSelection":{"type":"surcharge_fixed","data":{}},"rules":[]} <- {}
+3 refused program json 3 "/defaultSelection/data" <- - <- {"defaultSelection":{"type":"surcharge_fixed","data":[]},"rules":[]} <- {}
+3 refused program json 2 "/defaultSelection/data" <- - <- {"defaultSelection":{"type":"surcharge_fixed"},"rules":[]} <- {}
+3 refused program json 2 "/defaultSelection/data/basis_points" <- - <- {"defaultSelection":{"type":"surcharge_rate","data":{}},"rules":[]} <- {}
+3 refused program json 3 "/defaultSelection/data" <- - <- {"defaultSelection":{"type":"surcharge_rate","data":[]},"rules":[]} <- {}
+3 refused program json 2 "/defaultSelection/data" <- - <- {"defaultSelection":{"type":"surcharge_rate"},"rules":[]} <- {}
+3 refused program json 2 "/defaultSelection/data/decision" <- - <- {"defaultSelection":{"type":"three_ds","data":{}},"rules":[]} <- {}
+3 refused program json 3 "/defaultSelection/data" <- - <- {"defaultSelection":{"type":"three_ds","data":[]},"rules":[]} <- {}
+3 refused program json 2 "/defaultSelection/data" <- - <- {"defaultSelection":{"type":"three_ds"},"rules":[]} <- {}
+3 refused program json 3 "/defaultSelection/data/0/split" <- - <- {"defaultSelection":{"type":"volume_split","data":[{"connector":{"connector":"a"},"split":-1}]},"rules":[]} <- {}
+3 refused program json 3 "/defaultSelection/data/0/split" <- - <- {"defaultSelection":{"type":"volume_split","data":[{"connector":{"connector":"a"},"split":256}]},"rules":[]} <- {}
+3 refused program json 4 "/defaultSelection/data/0/split" <- - <- {"defaultSelection":{"type":"volume_split","data":[{"connector":{"connector":"a"},"split":1.0}]},"rules":[]} <- {}
+3 refused program json 3 "/defaultSelection/data/0/split" <- - <- {"defaultSelection":{"type":"volume_split","data":[{"connector":{"connector":"a"},"split":"1"}]},"rules":[]} <- {}
+3 refused program json 2 "/defaultSelection/data/0/split" <- - <- {"defaultSelection":{"type":"volume_split","data":[{"connector":{"connector":"a"}}]},"rules":[]} <- {}
+3 refused program json 3 "/defaultSelection/data/0/connector" <- - <- {"defaultSelection":{"type":"volume_split","data":[{"connector":"a","split":1}]},"rules":[]} <- {}
+3 refused program json 3 "/defaultSelection/data/1" <- - <- {"defaultSelection":{"type":"priority","data":[{"connector":"a"},"b"]},"rules":[]} <- {}
+3 refused program json 5 "/defaultSelection/data" <- - <- {"defaultSelection":{"type":"volume_split","data":[|4096*{"connector":{"connector":"a"},"split":1},|7]},"rules":[]} <- {}
+3 refused program json 6 "/defaultSelection/type" <- - <- {"defaultSelection":{"type":"Priority","data":[]},"rules":[]} <- {}
+3 refused program json 3 "/defaultSelection/type" <- - <- {"defaultSelection":{"type":7,"data":[]},"rules":[]} <- {}
+3 refused program json 3 "/defaultSelection/type" <- - <- PROGRAM "priority","data":[{"connector":"stripe"}]},"rules":[ -> 7},"rules":[7, <- {}
+3 refused program json 3 "/rules/0" <- - <- PROGRAM "rules":[ -> "rules":[7,7, <- {}
+3 refused program json 3 "/rules/0/name" <- - <- PROGRAM "name":"cards","connectorSelection" -> "connectorSelection":7,"name":7,"metadata" <- {}
+3 refused program json 2 "/rules/0/statements/0/condition/0/lhs" <- - <- IF {"value":7,"comparison":7} <- {}
+3 refused program json 3 "/rules/0/statements/0/condition/0/comparison" <- - <- IF {"value":7,"comparison":7,"lhs":""} <- {}
+3 refused program json 5 "/rules" <- - <- PROGRAM "rules":[ -> "rules":[7,|256*{"name":"r","connectorSelection":{"type":"none"},"statements":[]},| <- {}
+3 refused program type 1 0 0 <- - <- IF {"lhs":"colour","comparison":"less_than","value":{"type":"str_value","value":"a"}} <- {}
+3 refused program type 1 0 0 <- - <- IF {"lhs":"colour","comparison":"equal","value":{"type":"metadata_variant","value":{"key":"a","value":"b"}}} <- {}
+3 refused program type 2 0 0 <- - <- IF {"lhs":"amount","comparison":"less_than","value":{"type":"str_value","value":"a"}} <- {}
+3 refused program type 2 0 0 <- - <- IF {"lhs":"payment_method","comparison":"less_than","value":{"type":"number","value":5}} <- {}
+3 refused program type 2 0 0 <- - <- IF {"lhs":"payment_method","comparison":"equal","value":{"type":"str_value","value":"card"}} <- {}
+3 refused program type 2 0 0 <- - <- IF {"lhs":"amount","comparison":"equal","value":{"type":"enum_variant","value":"card"}} <- {}
+3 refused program type 2 0 0 <- - <- IF {"lhs":"card_bin","comparison":"equal","value":{"type":"enum_variant","value":"card"}} <- {}
+3 refused program type 2 0 0 <- - <- IF {"lhs":"card_bin","comparison":"equal","value":{"type":"metadata_variant","value":{"key":"a","value":"b"}}} <- {}
+3 refused program type 2 0 0 <- - <- IF {"lhs":"metadata","comparison":"equal","value":{"type":"str_value","value":"card"}} <- {}
+3 refused program type 2 0 0 <- - <- IF {"lhs":"payment_method","comparison":"equal","value":{"type":"number_array","value":[]}} <- {}
+3 refused program type 2 0 0 <- - <- IF {"lhs":"amount","comparison":"equal","value":{"type":"enum_variant_array","value":[]}} <- {}
+3 refused program type 2 0 0 <- - <- IF {"lhs":"card_bin","comparison":"equal","value":{"type":"number_comparison_array","value":[]}} <- {}
+3 refused program type 3 0 0 <- - <- IF {"lhs":"payment_method","comparison":"less_than","value":{"type":"enum_variant","value":"cash"}} <- {}
+3 refused program type 3 0 0 <- - <- IF {"lhs":"payment_method","comparison":"greater_than_equal","value":{"type":"enum_variant_array","value":["cash"]}} <- {}
+3 refused program type 4 0 0 <- - <- IF {"lhs":"payment_method","comparison":"equal","value":{"type":"enum_variant","value":"cash"}} <- {}
+3 refused program type 4 0 0 <- - <- IF {"lhs":"payment_method","comparison":"not_equal","value":{"type":"enum_variant_array","value":["card","cash"]}} <- {}
+3 refused program type 4 0 0 <- - <- IF {"lhs":"payment_method","comparison":"equal","value":{"type":"enum_variant","value":"cash"}} <- [
+3 refused program type 1 0 1 <- - <- IF {"lhs":"payment_method","comparison":"equal","value":{"type":"enum_variant","value":"card"}},{"lhs":"colour","comparison":"equal","value":{"type":"number","value":1}} <- {}
+3 refused program type 1 0 1 <- - <- PROGRAM "condition" -> "nested":[{"condition":[{"lhs":"colour","comparison":"equal","value":{"type":"number","value":1}}]}],"condition" <- {}
+3 refused program type 1 0 3 <- - <- PROGRAM "condition" -> "nested":[{"condition":[{"lhs":"payment_method","comparison":"equal","value":{"type":"enum_variant","value":"card"}}],"nested":[{"condition":[{"lhs":"payment_method","comparison":"equal","value":{"type":"enum_variant","value":"card"}}]}]},{"condition":[{"lhs":"colour","comparison":"equal","value":{"type":"number","value":1}}]}],"condition" <- {}
+3 refused program type 6 default selection <- - <- {"defaultSelection":{"type":"volume_split","data":[{"connector":{"connector":"a"},"split":99}]},"rules":[]} <- {}
+3 refused program type 6 default selection <- - <- {"defaultSelection":{"type":"volume_split","data":[{"connector":{"connector":"a"},"split":60},{"connector":{"connector":"a"},"split":41}]},"rules":[]} <- {}
+3 refused program type 6 default selection <- - <- {"defaultSelection":{"type":"volume_split","data":[|255*{"connector":{"connector":"a"},"split":1},|{"connector":{"connector":"a"},"split":1}]},"rules":[]} <- {}
+3 refused program type 6 default selection <- - <- {"defaultSelection":{"type":"volume_split","data":[{"connector":{"connector":"a"},"split":255},{"connector":{"connector":"a"},"split":101}]},"rules":[]} <- {}
+3 refused program type 6 0 selection <- - <- {"defaultSelection":{"type":"none"},"rules":[{"name":"q","connectorSelection":{"type":"volume_split","data":[{"connector":{"connector":"a"},"split":98}]},"statements":[]},{"name":"r","connectorSelection":{"type":"volume_split","data":[{"connector":{"connector":"a"},"split":99}]},"statements":[]}]} <- {}
+3 refused program type 6 1 selection <- - <- {"defaultSelection":{"type":"none"},"rules":[{"name":"r","connectorSelection":{"type":"volume_split","data":[{"connector":{"connector":"a"},"split":100}]},"statements":[]},{"name":"r","connectorSelection":{"type":"volume_split","data":[{"connector":{"connector":"a"},"split":99}]},"statements":[]}]} <- {}
+3 refused program type 5 0 selection <- - <- {"defaultSelection":{"type":"none"},"rules":[{"name":"r","connectorSelection":{"type":"priority","data":[]},"statements":[]}]} <- {}
+3 refused program type 5 0 selection <- - <- {"defaultSelection":{"type":"surcharge_fixed","data":{"amount":1}},"rules":[{"name":"r","connectorSelection":{"type":"volume_split","data":[]},"statements":[]}]} <- {}
+3 refused program type 5 1 selection <- - <- {"defaultSelection":{"type":"priority","data":[]},"rules":[{"name":"r","connectorSelection":{"type":"priority","data":[{"connector":"a"}]},"statements":[]},{"name":"r","connectorSelection":{"type":"volume_split","data":[]},"statements":[]}]} <- {}
+3 refused program type 7 0 selection <- - <- {"defaultSelection":{"type":"surcharge_fixed","data":{"amount":1}},"rules":[{"name":"r","connectorSelection":{"type":"priority","data":[{"connector":"a"}]},"statements":[]}]} <- {}
+3 refused program type 7 1 selection <- - <- {"defaultSelection":{"type":"none"},"rules":[{"name":"r","connectorSelection":{"type":"priority","data":[{"connector":"a"}]},"statements":[]},{"name":"r","connectorSelection":{"type":"three_ds","data":{"decision":"three_ds"}},"statements":[]}]} <- {}
+3 refused program type 7 2 selection <- - <- {"defaultSelection":{"type":"none"},"rules":[{"name":"r","connectorSelection":{"type":"surcharge_fixed","data":{"amount":1}},"statements":[]},{"name":"r","connectorSelection":{"type":"surcharge_rate","data":{"basis_points":1}},"statements":[]},{"name":"r","connectorSelection":{"type":"three_ds","data":{"decision":"three_ds"}},"statements":[]}]} <- {}
+3 refused program type 6 0 selection <- - <- {"defaultSelection":{"type":"surcharge_fixed","data":{"amount":1}},"rules":[{"name":"r","connectorSelection":{"type":"volume_split","data":[{"connector":{"connector":"a"},"split":99}]},"statements":[]}]} <- {}
+3 refused program type 7 0 selection <- - <- {"defaultSelection":{"type":"priority","data":[]},"rules":[{"name":"r","connectorSelection":{"type":"three_ds","data":{"decision":"three_ds"}},"statements":[]}]} <- {}
+0 {"type":"none"} <- - <- {"defaultSelection":{"type":"none"},"rules":[{"name":"r","connectorSelection":{"type":"none"},"statements":[]},{"name":"r","connectorSelection":{"type":"volume_split","data":[{"connector":{"connector":"a"},"split":100}]},"statements":[]},{"name":"r","connectorSelection":{"type":"priority","data":[{"connector":"a"}]},"statements":[]},{"name":"r","connectorSelection":{"type":"none"},"statements":[]}]} <- {}
+0 {"data":{"amount":1},"type":"surcharge_fixed"} <- - <- {"defaultSelection":{"type":"surcharge_fixed","data":{"amount":1}},"rules":[{"name":"r","connectorSelection":{"type":"none"},"statements":[]},{"name":"r","connectorSelection":{"type":"surcharge_rate","data":{"basis_points":1}},"statements":[]},{"name":"r","connectorSelection":{"type":"surcharge_fixed","data":{"amount":1}},"statements":[]}]} <- {}
+0 {"data":{"decision":"three_ds"},"type":"three_ds"} <- - <- {"defaultSelection":{"type":"three_ds","data":{"decision":"three_ds"}},"rules":[{"name":"r","connectorSelection":{"type":"three_ds","data":{"decision":"three_ds"}},"statements":[]},{"name":"r","connectorSelection":{"type":"none"},"statements":[]}]} <- {}
+3 refused program type 7 0 selection <- - <- PROGRAM {"type":"priority","data":[{"connector":"stripe"}]} -> {"type":"surcharge_fixed","data":{"amount":1}} <- [
+3 refused program type 6 default selection <- - <- PROGRAM {"type":"priority","data":[{"connector":"stripe"}]} -> {"type":"volume_split","data":[{"connector":{"connector":"a"},"split":1}]} <- {}"##;
+
 const PROGRAM: &str =
     r#"{"defaultSelection":{"type":"priority","data":[{"connector":"stripe"}]},"rules":[{"name":"cards","connectorSelection":{"type":"priority","data":[{"connector":"adyen"}]},"statements":[{"condition":[{"lhs":"payment_method","comparison":"equal","value":{"type":"enum_variant","value":"card"}}]}]}]}"#;
+
+const EMPTY: &str =
+    r#"{"defaultSelection":{"type":"priority","data":[{"connector":"stripe"}]},"rules":[]}"#;
+
+// The comparison of the program.
+const COMPARISON: &str =
+    r#"{"lhs":"payment_method","comparison":"equal","value":{"type":"enum_variant","value":"card"}}"#;
+
+const KEYS: &str =
+    r#"key = [{ name = "payment_method", kind = "enum", variants = ["card", "wallet"] }, { name = "payment_method_type", kind = "enum", variants = ["credit", "debit"] }, { name = "currency", kind = "enum", variants = ["USD", "EUR", "NOK"] }, { name = "amount", kind = "number", min = 0 }, { name = "age", kind = "number", min = 10, max = 20 }, { name = "card_bin", kind = "text" }, { name = "label", kind = "text" }, { name = "metadata", kind = "metadata" }, { name = "tip", kind = "number", min = 0 }]"#;
 
 const CARDS: &str =
     "rule 0 \"cards\"\n{\"data\":[{\"connector\":\"adyen\",\"merchant_connector_id\":null}],\"type\":\"priority\"}\n";
@@ -314,10 +689,37 @@ const DEFAULT: &str =
 const USAGE: &str =
     "usage: euclidc decide K P PAY | report K P S B | prove K P S T B | check K P S T C | convert P json|text | sample N\n";
 
-// The bytes of a file, by what its line says of it.
+// A file, by what its line says of it.
+fn file_of(alloc: Global, text: &str) -> Result<String, AllocError> {
+    if let Some(comparison) = text.strip_prefix("IF ") {
+        return PROGRAM.replace(alloc, COMPARISON, comparison);
+    }
+    if let Some((old, new)) = text.split_once(" -> ") {
+        return PROGRAM.replace(alloc, old.trim_start_matches("PROGRAM "), new);
+    }
+    let text = match text {
+        "PROGRAM" => PROGRAM,
+        "EMPTY" => EMPTY,
+        "KEYS" => KEYS,
+        text => text,
+    };
+    String::from_str(alloc, text)
+}
+
+fn byte_of(sign: u8) -> u8 {
+    match sign {
+        b'^' => b'\n',
+        b'`' => 0xff,
+        byte => byte,
+    }
+}
+
+// The bytes of a file, with spaces behind them up to a length.
 fn bytes_of(rt: &impl AllocGlobal, text: &str, length: &str) -> Result<Vec<u8>, Fail> {
-    let text = if text == "*" { PROGRAM } else { text };
-    let mut bytes = Vec::from_slice(rt.alloc(), text.as_bytes())?;
+    let mut bytes = Vec::new(rt.alloc());
+    for sign in file_of(rt.alloc(), text)?.as_bytes() {
+        bytes.push(byte_of(*sign))?;
+    }
     if !length.is_empty() {
         bytes.resize(length.parse()?, b' ')?;
     }
@@ -390,6 +792,9 @@ fn text_of(rt: &impl AllocGlobal, line: &str) -> Result<String, Fail> {
         "DEFAULT" => DEFAULT,
         "USAGE" => USAGE,
         "" => "",
+        line if line.starts_with('{') => {
+            return Ok(format!(in rt.alloc(); "default\n{line}\n")?);
+        }
         line => return Ok(format!(in rt.alloc(); "{line}\n")?),
     };
     Ok(String::from_str(rt.alloc(), text)?)
@@ -410,6 +815,60 @@ fn check_case<R: AllocGlobal + Abort>(rt: &R, case: &str) -> Result<(), Fail> {
             let wanted = wanted(rt, case, status, &text, room)?;
             assert_eq!(rt; found, wanted, "at {command} of {case}");
         }
+    }
+    Ok(())
+}
+
+// The text of a template.
+fn expanded(alloc: Global, template: &str) -> Result<String, AllocError> {
+    let mut text = String::new(alloc);
+    for part in template.split('|') {
+        match part.split_once('*') {
+            Some((count, item)) => push_items(alloc, &mut text, count.parse().unwrap_or(0), item)?,
+            None => text.push_str(part)?,
+        }
+    }
+    Ok(text)
+}
+
+fn push_items(alloc: Global, text: &mut String, count: u32, item: &str) -> Result<(), AllocError> {
+    for number in (0..count).rev() {
+        let number = number.to_string(alloc)?;
+        text.push_str(item.replace(alloc, "#", number.as_str())?.as_str())?;
+    }
+    Ok(())
+}
+
+// The case that a line of DECISIONS stands for.
+fn case_of(alloc: Global, line: &str) -> Option<String> {
+    let (answer, files) = line.split_once(" <- ")?;
+    let (keys, files) = files.split_once(" <- ")?;
+    let (program, payment) = files.split_once(" <- ")?;
+    let word = if keys == "-" { "-" } else { "K" };
+    let mut case = command_text(alloc, answer, word).ok()?;
+    let files = files_text(alloc, keys, program, payment).ok()?;
+    case.push_str(files.as_str()).ok()?;
+    Some(case)
+}
+
+fn command_text(alloc: Global, answer: &str, word: &str) -> Result<String, AllocError> {
+    format!(in alloc; "{answer}\n$ decide {word} P PAY\n")
+}
+
+fn files_text(
+    alloc: Global,
+    keys: &str,
+    program: &str,
+    payment: &str,
+) -> Result<String, AllocError> {
+    format!(in alloc; "K {keys}\nP {program}\nPAY {payment}\n")
+}
+
+#[test]
+fn programs_decide(rt: HostRuntime) -> Result<(), Fail> {
+    for line in expanded(rt.alloc(), DECISIONS)?.lines() {
+        let case = case_of(rt.alloc(), line).ok_or(line)?;
+        check_case(&rt, case.as_str())?;
     }
     Ok(())
 }

@@ -1,3 +1,13 @@
-pub mod Each
-pub mod EachCounted
-pub mod WrittenLemmas
+pub mod Counting
+pub mod Depths
+pub mod Leaves
+pub mod Levels
+pub mod NoFloat
+pub mod Parts
+pub mod ProgramLimits
+pub mod ProgramReadsBack
+pub mod SelectionReadsBack
+pub mod Tests
+pub mod Totals
+pub mod TreeReadsBack
+pub mod WrittenParts

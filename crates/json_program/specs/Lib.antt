@@ -1,7 +1,10 @@
 pub use Rattle.key_table.specs.Answers
-pub mod Counted
+pub use Rattle.euclid_ast.specs.Limits
+pub mod Begun
+pub mod Comparisons
+pub mod Parts
 pub mod Programs
 pub mod Selections
-pub mod Shapes
 pub mod Statements
+pub mod Texts
 pub mod Written

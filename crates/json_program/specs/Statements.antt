@@ -1,38 +1,34 @@
--- Statements and comparisons in JSON. Plain ones are not nested, and compare with one variant by `equal`.
-use Rattle.std.specs.Prelude.{ℕ, List, codes, is_none, None, Result, Ok}
-use Rattle.key_table.specs.Answers as answers
-use Rattle.key_table.specs.Answers.{provided}
-use Rattle.key_table.specs.declared.atom.Op.TheVariants.{Equal}
-use Rattle.serde_json.specs.Data.{Data}
-use Rattle.euclid_ast.specs.declared.statement.ValueForm.{ValueForm}
-use Rattle.euclid_ast.specs.declared.statement.ValueForm.TheVariants.{Variant}
+-- Statements in JSON.
+use Rattle.std.specs.Prelude.{ℕ, zero, suc, List, codes, Option, Err}
 use Rattle.euclid_ast.specs.declared.statement.Comparison.{Comparison}
 use Rattle.euclid_ast.specs.declared.statement.Statement.{Statement, roll-Statement}
-use Rattle.json_program.specs.declared.error.Unbuilt.{Unbuilt}
-use Rattle.json_program.specs.Shapes.{field_of, optional_of, string_of, short_text_of, list_of, unbuilt}
-use Rattle.json_program.specs.Counted.{Reading, ◌>>=◌, pure, plain, statement_begun, comparison_begun, each}
+use Rattle.json_shape.specs.Paths.{fault}
+use Rattle.json_shape.specs.Counted.{◌>>=◌, pure, plain}
+use Rattle.json_shape.specs.Counting.{within_field, within_optional, items}
+use Rattle.json_program.specs.Begun.{Reader, statement_begun, comparison_begun}
+use Rattle.json_program.specs.Comparisons.{fields_of}
 
--- the text of a field, of at most 255 bytes
-abbrev pub name_of : List ℕ → Data → Result (List ℕ) Unbuilt
-name_of field d = answers.◌>>=◌ (field_of field d) short_text_of
+-- a comparison, which is counted before its fields are judged
+unfoldable pub comparison_of : Reader Comparison
+comparison_of path d = comparison_begun path >>= λ _. plain (fields_of path d)
 
-abbrev pub variant_of : Data → Result ValueForm Unbuilt
-variant_of d = answers.◌>>=◌ (string_of (codes "type") (codes "enum_variant") d) (λ _. answers.◌>>=◌ (name_of (codes "value") d) (λ name. Ok (Variant name)))
+-- the condition of a statement
+abbrev pub condition_of : Reader (List Comparison)
+condition_of path d = within_field (codes "condition") (items 16384 comparison_of) path d
 
-unfoldable pub comparison_of : Data → Reading Comparison
-comparison_of d = do
-  _ ← comparison_begun
-  lhs ← plain (name_of (codes "lhs") d)
-  _ ← plain (string_of (codes "comparison") (codes "equal") d)
-  node ← plain (field_of (codes "value") d)
-  value ← plain (variant_of node)
-  pure (record { lhs = lhs; op = Equal; value = value })
+-- the nested statements of a statement, by how one is read
+abbrev pub nested_of : Reader Statement → Reader (Option (List Statement))
+nested_of read path d = within_optional (codes "nested") (items 16384 read) path d
 
-unfoldable pub statement_of : Data → Reading Statement
-statement_of d = do
-  _ ← statement_begun
-  node ← plain (field_of (codes "condition") d)
-  nodes ← plain (list_of 16384 node)
-  condition ← each comparison_of nodes
-  _ ← plain (provided unbuilt (is_none (optional_of (codes "nested") d)))
-  pure (roll-Statement (record { condition = condition; nested = None }))
+-- a statement, which is counted before its fields are judged, by how a nested one is read
+unfoldable pub body_of : Reader Statement → Reader Statement
+body_of read path d = do
+  _ ← statement_begun path
+  condition ← condition_of path d
+  nested ← nested_of read path d
+  pure (roll-Statement (record { condition = condition; nested = nested }))
+
+-- A statement where so many levels may open. The first one past them is too deep.
+unfoldable pub statement_of : ℕ → Reader Statement
+statement_of zero path d counts = Err (fault 5 path)
+statement_of (suc levels) path d counts = body_of (statement_of levels) path d counts

@@ -1,9 +1,10 @@
 ghost use Rattle.std.specs.Prelude.{◌≡◌};
 ghost use Rattle.key_table.specs.Answers.{Answers};
-ghost use Rattle.json_program.specs.Counted.{statement_begun, comparison_begun};
+ghost use Rattle.json_program.specs.Begun.{statement_begun, comparison_begun};
 
-use crate::error::Unbuilt;
+use crate::error::LIMIT;
 use crate::limits::{MOST_COMPARISONS, MOST_STATEMENTS};
+use json_shape::{Path, ShapeError};
 use key_table::Stop;
 
 /// How many statements and how many comparisons of the program were begun.
@@ -14,25 +15,25 @@ pub(crate) struct Counts {
 }
 
 impl Counts {
-    /// One more statement, of which there may be 16,384.
-    #[tactic(auto, unfolding(crate::specs::Counted::statement_begun))]
-    pub(crate) fn begin_statement(&mut self) -> Result<(), Stop<Unbuilt>>
-        ensures { Answers (λ u. (u, self.new)) result (statement_begun self.old) }
+    /// One more statement, which stands at a path. Limit there exactly where 16,384 were begun before.
+    #[tactic(auto, unfolding(crate::specs::Begun::statement_begun))]
+    pub(crate) fn begin_statement(&mut self, path: &Path) -> Result<(), Stop<ShapeError>>
+        ensures { Answers (λ u. (u, self.new)) result (statement_begun path.now self.old) }
     {
         if self.statements >= MOST_STATEMENTS {
-            return Err(Stop::Fault(Unbuilt));
+            return Err(path.stop(LIMIT));
         }
         self.statements += 1;
         Ok(())
     }
 
-    /// One more comparison, of which there may be 16,384.
-    #[tactic(auto, unfolding(crate::specs::Counted::comparison_begun))]
-    pub(crate) fn begin_comparison(&mut self) -> Result<(), Stop<Unbuilt>>
-        ensures { Answers (λ u. (u, self.new)) result (comparison_begun self.old) }
+    /// One more comparison, which stands at a path. Limit there exactly where 16,384 were begun before.
+    #[tactic(auto, unfolding(crate::specs::Begun::comparison_begun))]
+    pub(crate) fn begin_comparison(&mut self, path: &Path) -> Result<(), Stop<ShapeError>>
+        ensures { Answers (λ u. (u, self.new)) result (comparison_begun path.now self.old) }
     {
         if self.comparisons >= MOST_COMPARISONS {
-            return Err(Stop::Fault(Unbuilt));
+            return Err(path.stop(LIMIT));
         }
         self.comparisons += 1;
         Ok(())

@@ -1,82 +1,139 @@
-ghost use Rattle.std.specs.Prelude.{◌≡◌, map};
+ghost use Rattle.std.specs.Prelude.{◌≡◌, suc, map, true, IfOk};
+ghost use Rattle.std.specs.List.{list_all};
+ghost use Rattle.std.specs.Option.{option_map_or};
 ghost use Rattle.serde_json.specs.View.{view};
 ghost use Rattle.key_table.specs.Answers.{Answers};
-ghost use Rattle.json_program.specs.Counted.{each};
-ghost use Rattle.json_program.specs.Statements.{variant_of, comparison_of, statement_of};
+ghost use Rattle.euclid_ast.specs.Limits.{is_comparison};
+ghost use Rattle.json_shape.specs.Counted.{each};
+ghost use Rattle.json_program.specs.Parts.{is_statement};
+ghost use Rattle.json_program.specs.Statements.{comparison_of, condition_of, nested_of, body_of, statement_of};
 
+use crate::comparison::fields;
 use crate::counts::Counts;
-use crate::error::Unbuilt;
-use crate::limits::MOST_COMPARISONS;
-use crate::shape::{field, list_up_to, optional, short_text, string};
-use euclid_ast::{Comparison, Statement, ValueForm};
-use key_table::{Op, Seq, Stop};
+use crate::error::LIMIT;
+use crate::limits::{MOST_COMPARISONS, MOST_STATEMENTS};
+use euclid_ast::{Comparison, Statement};
+use json_shape::{CountingReader, Path, ShapeError, each_counted, field, list_up_to, optional};
+use key_table::{Seq, Stop};
 use serde_json::Value;
 use std::alloc::Global;
 
-/// The items of a list of statements.
+/// The statements of a list, where so many levels may open.
+#[cycle(statements)]
 pub(crate) fn statements(
     alloc: Global,
     nodes: &[Value],
+    path: &Path,
+    levels: u8,
     counts: &mut Counts,
-) -> Result<Seq<Statement>, Stop<Unbuilt>>
-    ensures { Answers (λ s. (s, counts.new)) result (each statement_of (map view nodes.now) counts.old) }
+) -> Result<Seq<Statement>, Stop<ShapeError>>
+    ensures statements { Answers (λ s. (s, counts.new)) result (each (statement_of levels) path.now 0 (map view nodes.now) counts.old) }
+    ensures fit { IfOk result (λ s. list_all (is_statement levels) s ≡ true) }
 {
-    let mut read = Seq::new(alloc);
-    for node in nodes {
-        read.push(statement(alloc, node, counts)?)?;
+    let mut items = Seq::new(alloc);
+    for (i, node) in nodes.iter().enumerate() {
+        let at = path.item(i)?;
+        items.push(statement(alloc, node, &at, levels, counts)?)?;
     }
-    Ok(read)
+    Ok(items)
 }
 
-#[tactic(auto, unfolding(crate::specs::Statements::statement_of))]
-fn statement(alloc: Global, node: &Value, counts: &mut Counts) -> Result<Statement, Stop<Unbuilt>>
-    ensures { Answers (λ s. (s, counts.new)) result (statement_of (view node.now) counts.old) }
-{
-    counts.begin_statement()?;
-    let nodes = list_up_to(field(node, "condition")?, MOST_COMPARISONS as usize)?;
-    let condition = comparisons(alloc, nodes, counts)?;
-    match optional(node, "nested") {
-        None => Ok(Statement {
-            condition,
-            nested: None,
-        }),
-        Some(_) => Err(Stop::Fault(Unbuilt)),
-    }
-}
-
-fn comparisons(
+#[cycle(statements)]
+fn statement(
     alloc: Global,
-    nodes: &[Value],
+    node: &Value,
+    path: &Path,
+    levels: u8,
     counts: &mut Counts,
-) -> Result<Seq<Comparison>, Stop<Unbuilt>>
-    ensures { Answers (λ s. (s, counts.new)) result (each comparison_of (map view nodes.now) counts.old) }
+) -> Result<Statement, Stop<ShapeError>>
+    ensures statement { Answers (λ s. (s, counts.new)) result (statement_of levels path.now (view node.now) counts.old) }
+    ensures fits { IfOk result (λ s. is_statement levels s ≡ true) }
 {
-    let mut read = Seq::new(alloc);
-    for node in nodes {
-        read.push(comparison(alloc, node, counts)?)?;
+    if levels == 0 {
+        return Err(path.stop(LIMIT));
     }
-    Ok(read)
+    body(alloc, node, path, levels - 1, counts)
 }
 
-#[tactic(auto, unfolding(crate::specs::Statements::comparison_of))]
-fn comparison(alloc: Global, node: &Value, counts: &mut Counts) -> Result<Comparison, Stop<Unbuilt>>
-    ensures { Answers (λ c. (c, counts.new)) result (comparison_of (view node.now) counts.old) }
+// A statement, where so many levels may open in it.
+#[cycle(statements)]
+#[tactic(auto, unfolding(crate::specs::Statements::body_of), using(crate::proofs::Parts::is_statement_made))]
+fn body(
+    alloc: Global,
+    node: &Value,
+    path: &Path,
+    levels: u8,
+    counts: &mut Counts,
+) -> Result<Statement, Stop<ShapeError>>
+    ensures statement { Answers (λ s. (s, counts.new)) result (body_of (statement_of levels) path.now (view node.now) counts.old) }
+    ensures fits { IfOk result (λ s. is_statement (suc levels) s ≡ true) }
 {
-    counts.begin_comparison()?;
-    let lhs = short_text(alloc, field(node, "lhs")?)?;
-    string(node, "comparison", "equal")?;
-    let value = value(alloc, field(node, "value")?)?;
-    Ok(Comparison {
-        lhs,
-        op: Op::Equal,
-        value,
-    })
+    counts.begin_statement(path)?;
+    let condition = condition(alloc, node, path, counts)?;
+    let nested = nested(alloc, node, path, levels, counts)?;
+    Ok(Statement { condition, nested })
 }
 
-fn value(alloc: Global, node: &Value) -> Result<ValueForm, Stop<Unbuilt>>
-    ensures { Answers (λ v. v) result (variant_of (view node.now)) }
+#[cycle(statements)]
+fn nested(
+    alloc: Global,
+    node: &Value,
+    path: &Path,
+    levels: u8,
+    counts: &mut Counts,
+) -> Result<Option<Seq<Statement>>, Stop<ShapeError>>
+    ensures nested { Answers (λ s. (s, counts.new)) result (nested_of (statement_of levels) path.now (view node.now) counts.old) }
+    ensures fit { IfOk result (λ o. option_map_or (list_all (is_statement levels)) o true ≡ true) }
 {
-    string(node, "type", "enum_variant")?;
-    let name = short_text(alloc, field(node, "value")?)?;
-    Ok(ValueForm::Variant(name))
+    match optional(alloc, node, path, "nested")? {
+        None => Ok(None),
+        Some(inner) => {
+            let at = path.name("nested")?;
+            let nodes = list_up_to(alloc, inner, &at, MOST_STATEMENTS as usize)?;
+            Ok(Some(statements(alloc, nodes, &at, levels, counts)?))
+        }
+    }
+}
+
+fn condition(
+    alloc: Global,
+    node: &Value,
+    path: &Path,
+    counts: &mut Counts,
+) -> Result<Seq<Comparison>, Stop<ShapeError>>
+    ensures condition { Answers (λ s. (s, counts.new)) result (condition_of path.now (view node.now) counts.old) }
+    ensures fit { IfOk result (λ s. list_all is_comparison s ≡ true) }
+{
+    let at = path.name("condition")?;
+    let list = field(alloc, node, path, "condition")?;
+    let nodes = list_up_to(alloc, list, &at, MOST_COMPARISONS as usize)?;
+    each_counted(alloc, &OneComparison, nodes, &at, counts)
+}
+
+// A comparison.
+struct OneComparison;
+
+impl CountingReader for OneComparison {
+    ghost use Rattle.euclid_ast.specs.Limits.{is_comparison};
+    ghost use Rattle.json_program.specs.Statements.{comparison_of};
+
+    type Item = Comparison;
+
+    type Counts = Counts;
+
+    ghost reads = { λ _. comparison_of };
+
+    ghost fits = { λ _ c. is_comparison c };
+
+    #[tactic(auto, unfolding(crate::specs::Statements::comparison_of))]
+    fn read(
+        &self,
+        alloc: Global,
+        node: &Value,
+        path: &Path,
+        counts: &mut Counts,
+    ) -> Result<Comparison, Stop<ShapeError>> {
+        counts.begin_comparison(path)?;
+        fields(alloc, node, path)
+    }
 }

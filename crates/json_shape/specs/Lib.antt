@@ -1,4 +1,11 @@
 pub use Rattle.key_table.specs.Answers
+pub use Rattle.key_table.specs.Integers
+pub mod Counted
+pub mod Counting
+pub mod Each
+pub mod Fields
 pub mod PathLaws
+pub mod PathViews
 pub mod Paths
 pub mod Shapes
+pub mod Shorter

@@ -1,6 +1,7 @@
-ghost use Rattle.std.specs.Prelude.{◌≡◌, ◌≤◌, map, option_map, length, IfOk};
+ghost use Rattle.std.specs.Prelude.{◌≡◌, ◌≤◌, map, option_map, length, true, IfOk};
 ghost use Rattle.serde_json.specs.View.{view};
 ghost use Rattle.key_table.specs.Answers.{Answers};
+ghost use Rattle.key_table.specs.Integers.{is_signed};
 ghost use Rattle.json_shape.specs.Shapes.{field_of, optional_of, short_text_of, whole_of, list_of};
 
 use crate::error::{LIMIT, MISSING, NOT_WHOLE, WRONG_SHAPE};
@@ -56,7 +57,8 @@ pub fn text_up_to(
     path: &Path,
     most: usize,
 ) -> Result<Text, Stop<ShapeError>>
-    ensures { Answers (λ t. t) result (short_text_of path.now most (view node.now)) }
+    ensures text { Answers (λ t. t) result (short_text_of path.now most (view node.now)) }
+    ensures within { IfOk result (λ t. length t ≤ most) }
 {
     let Some(text) = node.as_str() else {
         return Err(path.stop(WRONG_SHAPE));
@@ -71,7 +73,8 @@ pub fn text_up_to(
 /// there. NotWhole exactly where the number is past these bounds, or is written with a fraction, with an exponent or as `-0`
 /// (RFC 8259, section 6).
 pub fn whole(_alloc: Global, node: &Value, path: &Path) -> Result<i64, Stop<ShapeError>>
-    ensures { Answers (λ z. z) result (whole_of path.now (view node.now)) }
+    ensures number { Answers (λ z. z) result (whole_of path.now (view node.now)) }
+    ensures signed { IfOk result (λ z. is_signed z ≡ true) }
 {
     if !node.is_number() {
         return Err(path.stop(WRONG_SHAPE));

@@ -2,6 +2,7 @@ pub mod Answers
 pub mod Atoms
 pub mod BuiltIn
 pub mod Contexts
+pub mod Integers
 pub mod KeyViews
 pub mod NameLists
 pub mod Names

@@ -27,6 +27,3 @@ pub use stop::{NoMemory, NotUtf8, Stop};
 pub use table::{KeyTable, TableError};
 pub use text::Text;
 pub use word::is_word;
-
-#[cfg(test)]
-mod tests;

@@ -231,6 +231,3 @@ fn integer_or(value: Option<&Value>, default: i64, key: u32) -> Result<i64, Stop
         None => Err(fault(BAD_KIND, key)),
     }
 }
-
-#[cfg(test)]
-mod tests;

@@ -1,15 +1,14 @@
 -- Entries in ascending order: what stands at each slot says which entries they are.
-use Rattle.std.proofs.Common.{◌≡◌, ◌≤◌, length, arith, List, [], ◌∷◌, Bool, true, false, cond, Option, Some, None, refl, ap, sym, ◌∙◌, Ordering, Less, Equal, Greater, is_eq, subst}
-use Rattle.std.specs.Ordering.{ordering_reverse, match_ordering}
+use Rattle.std.proofs.Common.{◌≡◌, [], ◌∷◌, Bool, true, false, cond, Option, Some, None, refl, ap, sym, ◌∙◌, Ordering, Less, Equal, Greater, is_eq, subst}
+use Rattle.std.specs.Ordering.{ordering_reverse}
 use Rattle.std.specs.List.{AllByRecursion}
 use Rattle.std.specs.List.Sorted.{IsStrictlySortedBy}
 use Rattle.std.specs.Map.{keys_of}
-use Rattle.std.proofs.lemmas.Bool.{true≢false}
 use Rattle.std.proofs.lemmas.Cmp.{tied_itself}
 use Rattle.key_table.specs.declared.slot.Slot.{Slot}
 use Rattle.key_table.specs.declared.slot.Datum.{Datum}
 use Rattle.key_table.specs.Slots.{slot_cmp}
-use Rattle.key_table.specs.Payments.{Entries, AreAscending, value_of, with_value}
+use Rattle.key_table.specs.Payments.{Entries, AreAscending, value_of}
 use Rattle.key_table.proofs.OptionLemmas.{same_slot}
 use Rattle.key_table.proofs.Sorted.{slot_cmp_total, all_map, equal}
 

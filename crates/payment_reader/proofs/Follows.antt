@@ -1,6 +1,6 @@
 -- Reading what was written: each field puts what stood under its key.
 use Rattle.std.proofs.Common.{◌≡◌, ℕ, ◌+◌, ◌<◌, ◌≤◌, ◌⊎◌, inl, inr, List, [], ◌∷◌, length, Bool, true, false, cond, ◌&&◌, Option, Some, None, Result, Ok, ℤ, refl, ap, sym, ◌∙◌, subst, arith, slice_get, get_or, eqb, leb, is_eq, count_by}
-use Rattle.std.proofs.lemmas.Bool.{and_parts, false≢true, true≢false, ltb-true, eqb-true, eqb-false, le-leb}
+use Rattle.std.proofs.lemmas.Bool.{and_parts, false≢true, true≢false, ltb-true, le-leb}
 use Rattle.std.proofs.lemmas.List.Sums.{length-filter}
 use Rattle.std.proofs.lemmas.Option.{slice_get-get_or}
 use Rattle.serde_json.specs.Data.{string, object, Members, member}

@@ -1,5 +1,5 @@
 -- The keys of a table and their variants: each is found by its name, and a key has a domain.
-use Rattle.std.proofs.Common.{◌≡◌, ℕ, zero, suc, ◌<◌, List, [], ◌∷◌, length, map, Bool, true, false, not, Option, Some, None, option_map, refl, ap, sym, ◌∙◌, subst, inl, inr, arith, slice_get, bytes_eq, position}
+use Rattle.std.proofs.Common.{◌≡◌, ℕ, zero, suc, ◌<◌, List, [], ◌∷◌, length, map, Bool, true, not, Option, Some, None, option_map, refl, ap, sym, ◌∙◌, subst, inl, inr, arith, slice_get, bytes_eq, position}
 use Rattle.std.specs.List.{list_all, position_or_len}
 use Rattle.std.specs.Prelude.{nat_le, ◌&&◌}
 use Rattle.std.proofs.lemmas.Bool.{cases_Bool, and_parts, not-true, true≢false, lt-ltb, or_left, or_right}

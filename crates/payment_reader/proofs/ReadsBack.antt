@@ -1,12 +1,11 @@
 -- What is written for a payment reads back.
-use Rattle.std.proofs.Common.{◌≡◌, ℕ, zero, suc, ◌<◌, ◌≤◌, ◌⊎◌, inl, inr, List, [], ◌∷◌, length, Bool, true, false, cond, Option, Some, None, option_map, Result, Ok, Err, refl, ap, sym, ◌∙◌, subst, arith, slice_get, get_or, eqb, IfOk, IsUtf8, Ordering, Less, Equal, Greater, nat_cmp}
+use Rattle.std.proofs.Common.{◌≡◌, ℕ, zero, suc, ◌<◌, ◌≤◌, ◌⊎◌, inl, inr, List, [], ◌∷◌, length, Bool, true, false, cond, Option, Some, None, option_map, Result, Ok, Err, refl, ap, sym, ◌∙◌, subst, arith, IsUtf8, Ordering, Less, Equal, Greater, nat_cmp}
 use Rattle.std.specs.Str.{is_utf8}
 use Rattle.std.specs.Ordering.{match_ordering}
 use Rattle.std.specs.List.Sorted.{IsStrictlySortedBy}
 use Rattle.std.specs.Cmp.Lexicographic.{slice_cmp}
 use Rattle.std.proofs.lemmas.Bool.{cases_Bool, cases_eq, false≢true, cond-true}
 use Rattle.std.proofs.lemmas.Map.Lookups.{exact_bytes}
-use Rattle.std.proofs.lemmas.Option.{slice_get-get_or, slice_get_within}
 use Rattle.std.proofs.lemmas.Str.{is_utf8-from_IsUtf8}
 use Rattle.serde_json.specs.Data.{Data, object, Members, no_members, member, put, depth, members_depth}
 use Rattle.serde_json.specs.Find.{as_null, get_member}
@@ -15,9 +14,8 @@ use Rattle.serde_json.proofs.Views.{get_member-put, get_member-put_other}
 use Rattle.key_table.specs.declared.slot.Slot.{Slot}
 use Rattle.key_table.specs.declared.slot.Datum.{Datum}
 use Rattle.key_table.specs.declared.slot.Datum.TheVariants.{Variant, Number, Text}
-use Rattle.key_table.specs.Names.{are_distinct}
 use Rattle.key_table.specs.Slots.{at}
-use Rattle.key_table.specs.Tables.{Domain, variants, bounds, text, metadata, Key, Table, is_table, kind_of, name_at, names_in, domain_at, kind_at, variants_at, find_key, has_sub, allows}
+use Rattle.key_table.specs.Tables.{Domain, variants, bounds, text, metadata, Table, is_table, kind_of, name_at, domain_at, kind_at, variants_at, find_key, has_sub, allows}
 use Rattle.key_table.specs.Payments.{Entries, AreAscending, value_of, with_value, under, is_legal}
 use Rattle.key_table.proofs.Sorted.{slot_cmp_total, sorted_insert}
 use Rattle.key_table.proofs.UnderKeys.{value_under}

@@ -1,5 +1,5 @@
 -- What is written for a payment has no number with a fraction, and its keys go on one by one.
-use Rattle.std.proofs.Common.{◌≡◌, ℕ, zero, suc, ◌+◌, List, [], ◌∷◌, length, Bool, true, false, cond, ◌||◌, Option, Some, None, option_map, String, BTreeMap, pos, negsuc, refl, ap, sym, ◌∙◌, Ordering, Less, Equal, Greater, nat_cmp, add-one, eqb}
+use Rattle.std.proofs.Common.{◌≡◌, ℕ, zero, suc, ◌+◌, List, [], ◌∷◌, length, Bool, true, false, cond, ◌||◌, Option, Some, None, option_map, String, BTreeMap, pos, negsuc, refl, ap, sym, ◌∙◌, Ordering, Less, Equal, Greater, nat_cmp, add-one}
 use Rattle.std.specs.declared.alloc.Global.{Global}
 use Rattle.std.specs.Ordering.{match_ordering}
 use Rattle.std.specs.Cmp.Lexicographic.{slice_cmp}

@@ -1,5 +1,5 @@
 -- The payment that JSON says, or its first fault. The members of an object are visited in ascending order of their names.
-use Rattle.std.specs.Prelude.{ℕ, suc, nat_le, List, [], is_some, if◌then◌else◌, Option, Some, None, option_map, option_and_then, Result, Ok, Err, ⊤}
+use Rattle.std.specs.Prelude.{ℕ, suc, nat_le, List, [], is_some, if◌then◌else◌, Option, Some, None, option_map, option_and_then, Result, Ok, Err}
 use Rattle.serde_json.specs.Data.{Data, Members, no_members, member}
 use Rattle.serde_json.specs.Find.{as_null, as_str, as_object}
 use Rattle.key_table.specs.declared.key.Kind.{Kind}

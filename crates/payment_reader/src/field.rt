@@ -22,7 +22,8 @@ pub(crate) fn put_field(
 ) -> Result<(), Stop<ShapeError>>
     ensures { Answers (λ u. payment.new) result (field_put table.now name.now (view value.now) payment.old) }
 {
-    let path = Path::root(alloc).name(name)?;
+    let root = Path::root(alloc);
+    let path = root.name(name)?;
     let Some((key, kind)) = key_named(table, name) else {
         return Err(path.stop(UNKNOWN_KEY));
     };
@@ -55,7 +56,7 @@ fn put_value(
     match kind {
         Kind::Enum => put_variant(payment, table, key, path, value),
         Kind::Number => put_number(alloc, payment, table, key, path, value),
-        Kind::Text => put_text(alloc, payment, table, key, path, value),
+        Kind::Text => put_text(alloc, payment, table, Slot { key, sub: None }, path, value),
         Kind::Metadata => put_texts(alloc, payment, table, key, path, value),
     }
 }
@@ -103,22 +104,21 @@ fn put_number(
     )
 }
 
-// Puts the string at a path, of at most as many bytes as a text may have.
-fn put_text(
+/// Puts the string at a path as the text of a slot, of at most as many bytes as a text may have.
+pub(crate) fn put_text(
     alloc: Global,
     payment: &mut Payment,
     table: &KeyTable,
-    key: u32,
+    slot: Slot,
     path: &Path,
     value: &Value,
 ) -> Result<(), Stop<ShapeError>>
-    ensures { Answers (λ u. payment.new) result (text_put table.now (at key None) path.now (view value.now) payment.old) }
+    ensures { Answers (λ u. payment.new) result (text_put table.now slot path.now (view value.now) payment.old) }
 {
     let Some(text) = value.as_str() else {
         return Err(path.stop(WRONG_SHAPE));
     };
     let text = Text::from_str(alloc, text)?;
-    let slot = Slot { key, sub: None };
     put_fitting(payment, table, slot, Datum::Text(text), path, TEXT_LONG)
 }
 

@@ -10,6 +10,3 @@ mod write;
 pub use error::PaymentError;
 pub use reading::read_payment;
 pub use write::write_payment;
-
-#[cfg(test)]
-mod tests;

@@ -1,11 +1,11 @@
 ghost use Rattle.serde_json.specs.View.{view, members_view};
-ghost use Rattle.key_table.specs.Answers.{Answers, StopsWith};
-ghost use Rattle.json_shape.specs.Paths.{name_step, fault};
+ghost use Rattle.key_table.specs.Answers.{Answers};
 ghost use Rattle.payment_reader.specs.Reading.{sub_put, subs_put, texts_put};
 
 use crate::error::{LIMIT, TEXT_LONG, WRONG_SHAPE};
+use crate::field::put_text;
 use json_shape::{Path, ShapeError};
-use key_table::{Datum, KeyTable, NoMemory, Payment, Slot, Stop, Text};
+use key_table::{KeyTable, Payment, Slot, Stop, Text};
 use serde_json::{Map, Value};
 use std::alloc::Global;
 
@@ -62,31 +62,14 @@ fn put_sub(
 ) -> Result<(), Stop<ShapeError>>
     ensures { Answers (λ u. payment.new) result (sub_put table.now key path.now name.now (view value.now) payment.old) }
 {
+    let path = path.name(name)?;
     let sub = Some(Text::from_str(alloc, name)?);
     let slot = Slot { key, sub };
     if !table.slot_fits(&slot) {
-        return Err(sub_stop(path, name, TEXT_LONG));
+        return Err(path.stop(TEXT_LONG));
     }
     if value.is_null() {
         return Ok(());
     }
-    let Some(text) = value.as_str() else {
-        return Err(sub_stop(path, name, WRONG_SHAPE));
-    };
-    let datum = Datum::Text(Text::from_str(alloc, text)?);
-    if !table.datum_fits(&slot, &datum) {
-        return Err(sub_stop(path, name, TEXT_LONG));
-    }
-    payment.put(slot, datum)?;
-    Ok(())
-}
-
-// The fault with a code at a sub name. Its path is made only here, since most files have no fault.
-fn sub_stop(path: &Path, name: &str, code: u8) -> Stop<ShapeError>
-    ensures { StopsWith result (fault code (name_step path.now name.now)) }
-{
-    match path.name(name) {
-        Ok(path) => path.stop(code),
-        Err(NoMemory) => Stop::Memory,
-    }
+    put_text(alloc, payment, table, slot, &path, value)
 }

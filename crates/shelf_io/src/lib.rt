@@ -4,8 +4,6 @@
 mod mem_shelf;
 mod mem_sink;
 mod system;
-#[cfg(test)]
-mod tests;
 mod traits;
 
 pub use mem_shelf::MemShelf;

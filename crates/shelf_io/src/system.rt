@@ -8,9 +8,6 @@ use std::io::{self, Read, Write};
 use std::marker::Model;
 use std::rt::Files;
 
-#[cfg(test)]
-mod tests;
-
 /// The real files, whose names are their paths. Each error of the system is a fault.
 /// So is a file that is not there, and this shelf never answers `Absent`.
 /// The count of faults stays at 18,446,744,073,709,551,615 once it is there.

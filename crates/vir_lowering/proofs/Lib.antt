@@ -1,0 +1,9 @@
+pub mod AllAtomsFit
+pub mod AtomFits
+pub mod AtomHolds
+pub mod Faultless
+pub mod GroupedAtoms
+pub mod Kept
+pub mod Parts
+pub mod SameSlots
+pub mod WordNumbers
