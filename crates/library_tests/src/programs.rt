@@ -1,14 +1,15 @@
 //! Programs as JSON: what they decide by their source, how they are written, and limits that no file of a command reaches.
 
 use crate::cases::expanded;
+use crate::values::payment;
 use euclid_ast::{Choice, choice_of_source};
 use json_program::{JsonError, read_json, write_json};
 use key_table::{KeyTable, NoMemory, Stop};
-use payment_reader::read_payment;
 use std::alloc::Global;
 use std::test::Fail;
 
-// What a program decides on a card payment: the number of a rule, or `-` for the default.
+// What a program decides on a card payment, or after a `!` on one by a method that has no name: the number of a rule, or `-` for
+// the default.
 const CHOICES: &str = r#"- {"defaultSelection":{"type":"none"},"rules":[]}
 - {"defaultSelection":{"type":"none"},"rules":[{"name":"","connectorSelection":{"type":"none"},"statements":[]}]}
 0 {"defaultSelection":{"type":"none"},"rules":[{"name":"","connectorSelection":{"type":"none"},"statements":[{"condition":[]}]}]}
@@ -27,7 +28,11 @@ const CHOICES: &str = r#"- {"defaultSelection":{"type":"none"},"rules":[]}
 - {"defaultSelection":{"type":"none"},"rules":[{"name":"","connectorSelection":{"type":"none"},"statements":[{"condition":[],"nested":[{"condition":[{"lhs":"payment_method","comparison":"equal","value":{"type":"enum_variant","value":"wallet"}}]}]}]}]}
 - {"defaultSelection":{"type":"none"},"rules":[{"name":"","connectorSelection":{"type":"none"},"statements":[{"condition":[],"nested":[{"condition":[],"nested":[]}]}]}]}
 0 {"defaultSelection":{"type":"none"},"rules":[{"name":"","connectorSelection":{"type":"none"},"statements":[{"condition":[],"nested":[{"condition":[],"nested":[{"condition":[{"lhs":"payment_method","comparison":"equal","value":{"type":"enum_variant","value":"wallet"}}]},{"condition":[{"lhs":"payment_method","comparison":"equal","value":{"type":"enum_variant","value":"card"}}]}]}]}]}]}
-- {"defaultSelection":{"type":"none"},"rules":[{"name":"","connectorSelection":{"type":"none"},"statements":[{"condition":[{"lhs":"payment_method","comparison":"equal","value":{"type":"enum_variant","value":"wallet"}}],"nested":[{"condition":[{"lhs":"payment_method","comparison":"equal","value":{"type":"enum_variant","value":"card"}}]}]}]}]}"#;
+- {"defaultSelection":{"type":"none"},"rules":[{"name":"","connectorSelection":{"type":"none"},"statements":[{"condition":[{"lhs":"payment_method","comparison":"equal","value":{"type":"enum_variant","value":"wallet"}}],"nested":[{"condition":[{"lhs":"payment_method","comparison":"equal","value":{"type":"enum_variant","value":"card"}}]}]}]}]}
+!- {"defaultSelection":{"type":"none"},"rules":[{"name":"","connectorSelection":{"type":"none"},"statements":[{"condition":[{"lhs":"payment_method","comparison":"equal","value":{"type":"enum_variant","value":"card"}}]}]}]}
+!0 {"defaultSelection":{"type":"none"},"rules":[{"name":"","connectorSelection":{"type":"none"},"statements":[{"condition":[{"lhs":"payment_method","comparison":"not_equal","value":{"type":"enum_variant","value":"card"}}]}]}]}
+!- {"defaultSelection":{"type":"none"},"rules":[{"name":"","connectorSelection":{"type":"none"},"statements":[{"condition":[{"lhs":"payment_method","comparison":"equal","value":{"type":"enum_variant_array","value":["wallet","card"]}}]}]}]}
+!0 {"defaultSelection":{"type":"none"},"rules":[{"name":"","connectorSelection":{"type":"none"},"statements":[{"condition":[{"lhs":"payment_method","comparison":"not_equal","value":{"type":"enum_variant_array","value":["wallet","card"]}}]}]}]}"#;
 
 // What is written, and the program.
 const WRITTEN: &str =
@@ -42,9 +47,9 @@ const LONG: &str =
 5 /rules/0/statements/0/condition <- {"defaultSelection":{"type":"none"},"rules":[{"name":"","connectorSelection":{"type":"none"},"statements":[{"condition":[|16384*{"lhs":"a","comparison":"equal","value":{"type":"enum_variant","value":"b"}},|{"lhs":"a","comparison":"equal","value":{"type":"enum_variant","value":"b"}}]}]}]}"#;
 
 // The rule that a program chooses.
-fn chosen(alloc: Global, table: &KeyTable, file: &str) -> Option<Option<u32>> {
+fn chosen(alloc: Global, table: &KeyTable, entries: &str, file: &str) -> Option<Option<u32>> {
     let program = read_json(alloc, file.as_bytes()).ok()?;
-    let payment = read_payment(alloc, table, br#"{"payment_method":"card"}"#).ok()?;
+    let payment = payment(alloc, entries)?;
     Some(match choice_of_source(table, &program, &payment) {
         Choice::Rule(rule) => Some(rule),
         Choice::Default => None,
@@ -72,7 +77,11 @@ fn programs_choose(rt: HostRuntime) -> Result<(), Fail> {
     let table = KeyTable::built_in(rt.alloc())?;
     for line in CHOICES.lines() {
         let (wanted, file) = line.split_once(' ').ok_or(line)?;
-        let found = chosen(rt.alloc(), &table, file);
+        let (entries, wanted) = match wanted.strip_prefix('!') {
+            Some(wanted) => ("0=variant:99", wanted),
+            None => ("0=variant:0", wanted),
+        };
+        let found = chosen(rt.alloc(), &table, entries, file);
         assert_eq!(rt; found, Some(wanted.parse().ok()), "at {file}");
     }
     Ok(())

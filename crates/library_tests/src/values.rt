@@ -20,7 +20,7 @@ fn datum(alloc: Global, word: &str) -> Option<Datum> {
     let (kind, value) = word.split_once(':')?;
     Some(match kind {
         "variant" => Datum::Variant(value.parse().ok()?),
-        "text" => Datum::Text(Text::from_str(alloc, value).ok()?),
+        "text" => Datum::Text(Text::from_bytes(alloc, value.as_bytes()).ok()?),
         _ => Datum::Number(value.parse().ok()?),
     })
 }
