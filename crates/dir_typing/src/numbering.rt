@@ -79,7 +79,7 @@ fn variant_numbers(
 ) -> Result<Seq<u32>, NoMemory>
     ensures { IfOk result (λ numbers. numbers ≡ map (variant_number table.now key) words.now) }
 {
-    let mut numbers = Seq::new(alloc);
+    let mut numbers = Seq::with_capacity(alloc, words.len())?;
     for word in words {
         numbers.push(variant_number(table, key, word))?;
     }
@@ -89,7 +89,7 @@ fn variant_numbers(
 fn number_tests(alloc: Global, tests: &[NumberTest]) -> Result<Seq<NumberTest>, NoMemory>
     ensures { IfOk result (λ copies. copies ≡ tests.now) }
 {
-    let mut copies = Seq::new(alloc);
+    let mut copies = Seq::with_capacity(alloc, tests.len())?;
     for test in tests {
         copies.push(*test)?;
     }

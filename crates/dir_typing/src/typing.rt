@@ -44,7 +44,7 @@ fn rules(
     requires { length rules.now < 2 ^ 32 }
     ensures { Answers (λ r. r) result (judged (numbered (rule_faults table.now first) 0 rules.now) (map (rule_of table.now) rules.now)) }
 {
-    let mut typed = Seq::new(alloc);
+    let mut typed = Seq::with_capacity(alloc, rules.len())?;
     let mut number: u32 = 0;
     for source in rules {
         typed.push(rule(alloc, table, first, number, source)?)?;
@@ -102,7 +102,7 @@ fn statements(
 ) -> Result<Seq<DirStatement>, Stop<TypeFault>>
     ensures { Answers (λ s. (s, next.new)) result (counted table.now rule next.old (comparisons_in statements.now) (map (statement_of table.now) statements.now)) }
 {
-    let mut typed = Seq::new(alloc);
+    let mut typed = Seq::with_capacity(alloc, statements.len())?;
     for source in statements {
         typed.push(statement(alloc, table, rule, next, source)?)?;
     }
@@ -142,7 +142,7 @@ fn comparisons(
 ) -> Result<Seq<DirComparison>, Stop<TypeFault>>
     ensures { Answers (λ c. (c, next.new)) result (counted table.now rule next.old comparisons.now (map (comparison_of table.now) comparisons.now)) }
 {
-    let mut typed = Seq::new(alloc);
+    let mut typed = Seq::with_capacity(alloc, comparisons.len())?;
     for source in comparisons {
         typed.push(comparison(alloc, table, rule, *next, source)?)?;
         // A program within the limits has far fewer comparisons than a u32 counts.

@@ -1,7 +1,9 @@
 pub mod CommandLemmas
 pub mod Completeness
+pub mod ConvertLemmas
 pub mod DecideLemmas
 pub mod Faults
+pub mod FormLemmas
 pub mod Joined
 pub mod Meetings
 pub mod Names

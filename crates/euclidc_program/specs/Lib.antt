@@ -1,7 +1,9 @@
 pub mod CommandViews
 pub mod Commands
+pub mod Convert
 pub mod Decide
 pub mod Decisions
+pub mod Forms
 pub mod PaymentFiles
 pub mod ProgramFiles
 pub mod Refusals

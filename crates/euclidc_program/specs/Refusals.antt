@@ -1,5 +1,5 @@
 -- The lines that refuse a file.
-use Rattle.std.specs.Prelude.{ℕ, List, ◌∷◌, ◌++◌, codes, decimal}
+use Rattle.std.specs.Prelude.{ℕ, List, ◌∷◌, ◌++◌, Option, Some, None, codes, decimal}
 use Rattle.euclidc_program.specs.declared.role.Role.{Role}
 use Rattle.euclidc_program.specs.Roles.{word_of}
 
@@ -10,3 +10,8 @@ refusal what code place = codes "refused " ++ (what ++ 32 ∷ (decimal code ++ 3
 -- the line of a file that is longer than its limit
 abbrev pub too_long : Role → List ℕ
 too_long role = codes "toolong " ++ (word_of role ++ codes "\n")
+
+-- the number of a rule, or the default
+unfoldable pub rule_place : Option ℕ → List ℕ
+rule_place None = codes "default"
+rule_place (Some rule) = decimal rule

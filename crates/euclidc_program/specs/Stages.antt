@@ -32,6 +32,13 @@ abbrev pub Gives : {X A : Type 0} → (X → A) → (Files → Run A) → List N
 Gives view run names old new (Ok x) = (new ≡ old) × WhereTold old.holds (λ files. (run files).end ≡ goes (view x))
 Gives view run names old new (Err halt) = Stops run names old new halt
 
+-- What bytes are was judged: a value, seen by view, or the answer that refuses them.
+abbrev pub Judges : {X A : Type 0} → (X → A) → End A → Result X Halt → Type 0
+Judges view end (Ok x) = end ≡ goes (view x)
+Judges view end (Err NoMemory) = Unit {0}
+Judges view end (Err ReadFault) = ⊥
+Judges view end (Err (Ends answer)) = end ≡ ends answer.text answer.verdict
+
 -- What may be answered where a run ends so: what a value allows, or the answer that is decided. A run that lacks a
 -- file has no answer.
 abbrev pub Ending : {A : Type 0} → (A → List ℕ → Verdict → Type 0) → End A → List ℕ → Verdict → Type 0

@@ -1,5 +1,5 @@
 -- The file of a program that is typed by a key table.
-use Rattle.std.specs.Prelude.{ℕ, List, ◌∷◌, ◌++◌, Option, Some, None, Result, codes, decimal}
+use Rattle.std.specs.Prelude.{ℕ, List, ◌∷◌, ◌++◌, Result, codes, decimal}
 use Rattle.shelf_io.specs.Seen.{Name, Files}
 use Rattle.key_table.specs.Tables.{Table}
 use Rattle.euclid_ast.specs.declared.program.Program.{Program}
@@ -9,14 +9,9 @@ use Rattle.dir_typing.specs.declared.fault.TypeFault.{TypeFault}
 use Rattle.dir_typing.specs.Faults.{faults}
 use Rattle.dir_typing.specs.Typed as typing
 use Rattle.dir_typing.specs.Typed.{Typed, typed}
-use Rattle.euclidc_program.specs.Refusals.{refusal}
+use Rattle.euclidc_program.specs.Refusals.{refusal, rule_place}
 use Rattle.euclidc_program.specs.Runs.{Run, ◌>>=◌, ending, judged}
 use Rattle.euclidc_program.specs.ProgramFiles.{program_file}
-
--- the number of a rule, or the default
-unfoldable pub rule_text : Option ℕ → List ℕ
-rule_text None = codes "default"
-rule_text (Some rule) = decimal rule
 
 -- the selection, or the number of a comparison
 unfoldable pub place_text : Place → List ℕ
@@ -25,7 +20,7 @@ place_text (place.Comparison number) = decimal number
 
 -- the line of a refusal
 abbrev pub type_refusal : TypeFault → List ℕ
-type_refusal fault = refusal (codes "program type") fault.code (rule_text fault.rule ++ 32 ∷ place_text fault.place)
+type_refusal fault = refusal (codes "program type") fault.code (rule_place fault.rule ++ 32 ∷ place_text fault.place)
 
 -- A program with its table, where it has no fault by that.
 abbrev pub typed_of : Table → Program → Result Typed TypeFault

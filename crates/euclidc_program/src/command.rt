@@ -7,11 +7,20 @@ pub enum TableSource<'a> {
     File(&'a str),
 }
 
+/// A form of programs.
+#[derive(Clone, Copy, Debug, PartialEq, Eq)]
+pub enum Form {
+    Json,
+    Text,
+}
+
 /// What the words ask for.
 #[derive(Clone, Copy, Drop)]
 pub enum Command<'a> {
     /// The decision, by a key table, of the program in the first file on the payment in the second.
     Decide(TableSource<'a>, &'a str, &'a str),
+    /// The program in the file, in the form.
+    Convert(Form, &'a str),
     /// A command that is not built yet.
     Unbuilt,
 }

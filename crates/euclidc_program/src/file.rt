@@ -1,5 +1,6 @@
-ghost use Rattle.std.specs.Prelude.{ℕ, [], ◌∷◌, Vec};
+ghost use Rattle.std.specs.Prelude.{ℕ, ◌≤◌, [], ◌∷◌, length, Vec, IfOk};
 ghost use Rattle.std.specs.declared.alloc.Global.{Global};
+ghost use Rattle.euclidc_program.specs.Roles.{limit_of};
 ghost use Rattle.euclidc_program.specs.Runs.{bytes_in};
 ghost use Rattle.euclidc_program.specs.Stages.{Gives};
 
@@ -16,7 +17,8 @@ pub fn read_file<F: Shelf>(
     name: &str,
     role: Role,
 ) -> Result<Vec<u8>, Halt>
-    ensures { Gives (λ (v : Vec ℕ Global). v.items) (bytes_in role name.now) (name.now ∷ []) (F.seen shelf.old) (F.seen shelf.new) result }
+    ensures stage { Gives (λ (v : Vec ℕ Global). v.items) (bytes_in role name.now) (name.now ∷ []) (F.seen shelf.old) (F.seen shelf.new) result }
+    ensures few { IfOk result (λ (v : Vec ℕ Global). length v.items ≤ limit_of role) }
 {
     let limit = role.limit();
     match shelf.read_up_to(alloc, name, limit + 1) {

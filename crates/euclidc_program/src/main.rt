@@ -3,9 +3,11 @@
 
 mod answer;
 mod command;
+mod convert;
 mod decide;
 mod decision;
 mod file;
+mod forms;
 mod payment_file;
 mod program_file;
 mod refusal;

@@ -1,5 +1,7 @@
+use crate::forms::both_forms;
 use crate::status::Status;
 use crate::top::euclidc;
+use json_program::read_json;
 use shelf_io::{MemShelf, MemSink, Shelf};
 use std::alloc::{AllocError, Global};
 use std::process::Abort;
@@ -9,7 +11,8 @@ use std::test::Fail;
 // Whole commands. A case begins with the number of its status and with what is written: one line, a word for one of the
 // texts below, or the selection of the default where that decides. Its other lines are
 //     $ WORD ..        the words of the command, with `_` for an empty one; each such line is a command of its own
-//     NAME TEXT        a file, where `^` is a line end, and a backtick a byte that no text has. PROGRAM is the program below,
+//     NAME TEXT        a file, where `^` is a line end, `!` a tab, `'` a carriage return, `$` a form feed, `?` the byte 0, and a
+//                      backtick a byte that no text has. PROGRAM is the program below,
 //                      `PROGRAM OLD -> NEW` that program with NEW for OLD, `IF COMPARISON` the one with this comparison in
 //                      place of its own, EMPTY a program without rules, and KEYS the keys below
 //     NAME:N TEXT      a file with spaces behind the text, up to so many bytes
@@ -38,6 +41,8 @@ $ report - P S _
 $ check - P S 0 _
 $ check - P S 256 C
 $ convert P xml
+$ convert _ json
+$ convert P Json
 $ sample 4294967296
 $ sample 18446744073709551616
 $ sample
@@ -51,8 +56,6 @@ $ report K P S 0
 $ prove - P S default 10
 $ prove - P S 255 65536
 $ check - P S 255 C
-$ convert P json
-$ convert P text
 $ sample 4294967295
 ! 1
 P PROGRAM
@@ -84,9 +87,49 @@ $ decide - P PAY
 P {"defaultSelection":{"type":"none"},"rules":[]}
 PAY [
 ===
-3 refused program unbuilt
+3 refused program text 6 0
 $ decide - P PAY
+$ convert P json
+$ convert P text
 P [
+===
+0 = default: ["stripe"]^"cards": ["adyen"] {^  payment_method = card^}^
+$ convert P text
+~
+P PROGRAM
+===
+0 = {"defaultSelection":{"type":"none"},"metadata":{},"rules":[]}^
+$ convert P json
+~
+P default: none
+===
+5
+$ convert P json
+$ convert P text
+Q PROGRAM
+===
+5
+$ convert P json
+! 1
+P PROGRAM
+===
+0 = default: ["stripe"]^
+$ convert P text
+! 2
+P EMPTY
+===
+0 = default: none^
+$ convert P text
+P:1048576 default: none
+===
+3 refused program text 6 8
+$ convert P json
+P:1048576 default none
+===
+4 toolong program
+$ convert P json
+$ convert P text
+P:1048577 default: none
 ===
 3 refused payment 3 ""
 $ decide - P PAY
@@ -428,13 +471,184 @@ const DECISIONS: &str =
 0 CARDS <- - <- IF {"lhs":"amount","comparison":"greater_than_equal","value":{"type":"number","value":9223372036854775807}} <- {"amount":9223372036854775807}
 0 DEFAULT <- - <- IF {"lhs":"amount","comparison":"greater_than","value":{"type":"number","value":9223372036854775807}} <- {"amount":9223372036854775807}
 0 DEFAULT <- - <- IF {"lhs":"metadata","comparison":"equal","value":{"type":"metadata_variant","value":{"key":"tier","value":"gold"}}} <- {"metadata":{"level":"gold"}}
-3 refused program unbuilt <- - <- |0*x| <- {}
-3 refused program unbuilt <- - <- [] <- {}
-3 refused program unbuilt <- - <- null <- {}
-3 refused program unbuilt <- - <- 5 <- {}
-3 refused program unbuilt <- - <- "default" <- {}
-3 refused program unbuilt <- - <- default: none <- {}
-3 refused program unbuilt <- - <-  ^ <- {}
+3 refused program text 6 0 <- - <- |0*x| <- {}
+3 refused program text 6 2 <- - <-  ^ <- {}
+3 refused program text 6 0 <- - <- [] <- {}
+3 refused program text 6 0 <- - <- null <- {}
+3 refused program text 6 0 <- - <- 5 <- {}
+3 refused program text 6 0 <- - <- "default" <- {}
+3 refused program text 6 7 <- - <- default <- {}
+3 refused program text 6 8 <- - <- default: <- {}
+3 refused program text 6 8 <- - <- default none <- {}
+3 refused program text 6 16 <- - <- default : none r <- {}
+3 refused program text 6 16 <- - <- default: none r: <- {}
+3 refused program text 6 21 <- - <- default: none r: none <- {}
+3 refused program text 6 23 <- - <- default: none r: none { <- {}
+3 refused program text 6 30 <- - <- default: none r: none { amount <- {}
+3 refused program text 6 18 <- - <- default: none "r" "s" <- {}
+3 refused program text 6 21 <- - <- default: none default <- {}
+3 refused program text 6 26 <- - <- default: none r: none { } { <- {}
+3 refused program text 1 34 <- - <- default: none r: ["a"] { amount = - } <- {}
+3 refused program text 1 34 <- - <- default: none r: ["a"] { amount = --1 } <- {}
+3 refused program text 1 32 <- - <- default: none r: ["a"] { amount / 7 } <- {}
+3 refused program text 1 32 <- - <- default: none r: ["a"] { amount / = 7 } <- {}
+3 refused program text 6 34 <- - <- default: none r: ["a"] { amount < = 7 } <- {}
+3 refused program text 2 34 <- - <- default: none r: ["a"] { amount = " } <- {}
+3 refused program text 6 33 <- - <- default: none r: ["a"] { amount == 1 } <- {}
+3 refused program text 6 33 <- - <- default: none r: ["a"] { amount => 1 } <- {}
+3 refused program text 6 33 <- - <- default: none r: ["a"] { amount =< 1 } <- {}
+3 refused program text 6 34 <- - <- default: none r: ["a"] { amount = } <- {}
+3 refused program text 6 32 <- - <- default: none r: ["a"] { amount } <- {}
+3 refused program text 6 25 <- - <- default: none r: ["a"] { = 1 } <- {}
+3 refused program text 6 25 <- - <- default: none r: ["a"] { 5 = amount } <- {}
+3 refused program text 6 25 <- - <- default: none r: ["a"] { "amount" = 1 } <- {}
+3 refused program text 6 32 <- - <- default: none r: ["a"] { amount 1 } <- {}
+3 refused program text 6 38 <- - <- default: none r: ["a"] { amount = 1 & } <- {}
+3 refused program text 6 38 <- - <- default: none r: ["a"] { amount = 1 & & amount = 1 } <- {}
+3 refused program text 6 35 <- - <- default: none r: ["a"] { amount = 1, amount = 2 } <- {}
+3 refused program text 6 46 <- - <- default: none r: ["a"] { amount = card amount } <- {}
+3 refused program text 6 37 <- - <- default: none r: ["a"] { amount = 5a } <- {}
+3 refused program text 6 36 <- - <- default: none r: ["a"] { amount = 5 6 } <- {}
+3 refused program text 6 38 <- - <- default: none r: ["a"] { amount = 1 { } } <- {}
+3 refused program text 6 50 <- - <- default: none r: ["a"] { amount = 1 { amount = 2 } <- {}
+3 refused program text 6 38 <- - <- default: none r: ["a"] { amount = 1 } } } <- {}
+3 refused program text 6 51 <- - <- default: none r: ["a"] { amount = 1 { amount = 2 } { amount = 3 } } <- {}
+3 refused program text 6 40 <- - <- default: none r: ["a"] { amount = "a" : } <- {}
+3 refused program text 6 40 <- - <- default: none r: ["a"] { amount = "a" : b } <- {}
+3 refused program text 6 40 <- - <- default: none r: ["a"] { amount = "a" : 5 } <- {}
+3 refused program text 6 38 <- - <- default: none r: ["a"] { amount = "a" "b" } <- {}
+3 refused program text 6 36 <- - <- default: none r: ["a"] { amount = a : "b" } <- {}
+3 refused program text 6 34 <- - <- default: none r: ["a"] { amount = [1] } <- {}
+3 refused program text 1 34 <- - <- default: none r: ["a"] { amount = $1 } <- {}
+3 refused program text 1 34 <- - <- default: none r: ["a"] { amount = ?1 } <- {}
+3 refused program text 1 34 <- - <- default: none r: ["a"] { amount = ;1 } <- {}
+3 refused program text 1 34 <- - <- default: none r: ["a"] { amount = é1 } <- {}
+3 refused program text 6 38 <- - <- default: none r: ["a"] { amount = (1, a) } <- {}
+3 refused program text 6 38 <- - <- default: none r: ["a"] { amount = (a, 1) } <- {}
+3 refused program text 6 39 <- - <- default: none r: ["a"] { amount = (<1, 2) } <- {}
+3 refused program text 6 40 <- - <- default: none r: ["a"] { amount = (<1, <a) } <- {}
+3 refused program text 6 38 <- - <- default: none r: ["a"] { amount = (1, <2) } <- {}
+3 refused program text 6 36 <- - <- default: none r: ["a"] { amount = ( ) } <- {}
+3 refused program text 6 37 <- - <- default: none r: ["a"] { amount = (1,) } <- {}
+3 refused program text 6 35 <- - <- default: none r: ["a"] { amount = (,1) } <- {}
+3 refused program text 6 35 <- - <- default: none r: ["a"] { amount = ("a") } <- {}
+3 refused program text 6 37 <- - <- default: none r: ["a"] { amount = (1 2) } <- {}
+3 refused program text 6 37 <- - <- default: none r: ["a"] { amount = (1 } <- {}
+3 refused program text 6 36 <- - <- default: none r: ["a"] { amount = (1] } <- {}
+3 refused program text 6 35 <- - <- default: none r: ["a"] { amount = ((1)) } <- {}
+3 refused program text 3 34 <- - <- default: none r: ["a"] { amount = 9223372036854775808 } <- {}
+3 refused program text 3 34 <- - <- default: none r: ["a"] { amount = -9223372036854775809 } <- {}
+3 refused program text 3 34 <- - <- default: none r: ["a"] { amount = 00009223372036854775808 } <- {}
+3 refused program text 3 38 <- - <- default: none r: ["a"] { amount = (1, 99999999999999999999) } <- {}
+3 refused program text 5 36 <- - <- default: none r: ["a"] { card_bin = "|256*a|" } <- {}
+3 refused program text 2 36 <- - <- default: none r: ["a"] { card_bin = "a^b" } <- {}
+3 refused program text 5 25 <- - <- default: none r: ["a"] { |256*a| = 1 } <- {}
+3 refused program text 5 34 <- - <- default: none r: ["a"] { amount = |256*a| } <- {}
+3 refused program text 4 37 <- - <- default: none r: ["a"] { card_bin = "`" } <- {}
+3 refused program text 4 43 <- - <- default: none r: ["a"] { card_bin = "a" ; "`" } <- {}
+3 refused program text 1 41 <- - <- default: none r: ["a"] { card_bin = "é" é } <- {}
+3 refused program text 6 9 <- - <- default: |255*a| <- {}
+3 refused program text 5 9 <- - <- default: |256*a| <- {}
+3 refused program text 5 9 <- - <- default: "|256*a|" <- {}
+3 refused program text 2 9 <- - <- default: "|256*a| <- {}
+3 refused program text 6 271 <- - <- default: none "|255*a|" <- {}
+3 refused program text 1 13 <- - <- default none ; <- {}
+3 refused program text 4 14 <- - <- default none "` <- {}
+3 refused program text 1 13 <- - <- default: none  <- {}
+3 refused program text 1 26 <- - <- default: none r: none { } ~ <- {}
+3 refused program text 6 16 <- - <- default: ["a" @ ] <- {}
+3 refused program text 6 16 <- - <- default: ["a" @ b] <- {}
+3 refused program text 6 14 <- - <- default: ["a" % 3] <- {}
+3 refused program text 6 19 <- - <- default: split ["a"] <- {}
+3 refused program text 6 30 <- - <- default: split ["a" @ "b" % 3,] <- {}
+3 refused program text 6 10 <- - <- default: [,] <- {}
+3 refused program text 6 14 <- - <- default: ["a",] <- {}
+3 refused program text 6 14 <- - <- default: ["a" "b"] <- {}
+3 refused program text 6 10 <- - <- default: [a] <- {}
+3 refused program text 6 10 <- - <- default: [5] <- {}
+3 refused program text 6 16 <- - <- default: split [a % 3] <- {}
+3 refused program text 6 22 <- - <- default: split ["a" % x] <- {}
+3 refused program text 6 22 <- - <- default: split ["a" % ] <- {}
+3 refused program text 6 15 <- - <- default: split 5 <- {}
+3 refused program text 6 14 <- - <- default: split <- {}
+3 refused program text 6 18 <- - <- default: surcharge <- {}
+3 refused program text 6 19 <- - <- default: surcharge "5" <- {}
+3 refused program text 6 19 <- - <- default: surcharge -1 <- {}
+3 refused program text 6 13 <- - <- default: rate <- {}
+3 refused program text 6 14 <- - <- default: rate x <- {}
+3 refused program text 6 14 <- - <- default: rate 10001 <- {}
+3 refused program text 6 14 <- - <- default: rate -1 <- {}
+3 refused program text 6 22 <- - <- default: split ["a" % 256] <- {}
+3 refused program text 6 22 <- - <- default: split ["a" % -1] <- {}
+3 refused program text 6 29 <- - <- default: three_ds no_three_ds <- {}
+3 refused program text 6 9 <- - <- default: Default <- {}
+3 refused program text 6 9 <- - <- default: none_ <- {}
+3 refused program text 6 9 <- - <- default: (1) <- {}
+3 refused program text 6 25 <- - <- default: split ["a" % 100 <- {}
+3 refused program text 6 13 <- - <- default: none, none <- {}
+3 refused program text 7 3086 <- - <- default: none |256*r: none { } |r: none { } <- {}
+3 refused program text 1 3090 <- - <- default: none |256*r: none { } |"r" ; <- {}
+3 refused program text 7 3086 <- - <- default: none |256*r: none { } |"r" 5 <- {}
+3 refused program text 6 3086 <- - <- default: none |256*r: none { } |5 <- {}
+3 refused program text 7 180249 <- - <- default: none r: ["a"] { |16384*amount = 1 |amount = 1 } <- {}
+3 refused program text 7 213017 <- - <- default: none r: ["a"] { |16384*amount = 1 & |amount = 1 } <- {}
+3 refused program text 7 213017 <- - <- default: none r: ["a"] { amount = 1 { |16383*amount = 1 & |amount = 1 & amount = 1 } } <- {}
+3 refused program text 6 213018 <- - <- default: none r: ["a"] { |16384*amount = 1 & | } <- {}
+3 refused program text 6 25 <- - <- default: none |2*r: none { |8192*amount = 1 | } |r: none { amount = 1 } <- {}
+3 refused program text 7 180253 <- - <- default: none r: ["a"] { amount = 1 { |16382*amount = 1 |amount = 1 { amount = 1 } } } <- {}
+3 refused program text 7 439 <- - <- default: none r: ["a"] { |32*amount = 1 { |amount = 1 |32*} | } <- {}
+3 refused program text 1 441 <- - <- default: none r: ["a"] { |32*amount = 1 { |; } <- {}
+3 refused program text 7 439 <- - <- default: none r: ["a"] { |31*amount = 1 { |amount = 1 { } <- {}
+3 refused program text 7 12323 <- - <- default: none r: ["a"] { amount = (|4096*1, |1) } <- {}
+3 refused program text 7 16419 <- - <- default: none r: ["a"] { amount = (|4096*>1, |>1) } <- {}
+3 refused program text 7 24619 <- - <- default: none r: ["a"] { payment_method = (|4096*card, |card) } <- {}
+3 refused program text 6 12323 <- - <- default: none r: ["a"] { amount = (|4096*1, |) } <- {}
+3 refused program text 6 12323 <- - <- default: none r: ["a"] { amount = (|4096*1, |a) } <- {}
+3 refused program text 7 20490 <- - <- default: [|4096*"a", |"a"] <- {}
+3 refused program text 7 36880 <- - <- default: split [|4096*"a" % 1, |"a" % 1] <- {}
+3 refused program text 6 20490 <- - <- default: [|4096*"a", |5] <- {}
+0 RULE <- - <- default: none r: ["a"] { amount = -0 } <- {"amount":0}
+0 RULE <- - <- default: none r: ["a"] { amount = 007 } <- {"amount":7}
+0 RULE <- - <- default: none r: ["a"] { amount=1&amount/=2 } <- {"amount":1}
+0 {"type":"none"} <- - <- default: none r: ["a"] { amount=1&amount/=2 } <- {"amount":2}
+0 {"type":"none"} <- - <- default: none r: ["a"] { amount=(<1,>=2) } <- {"amount":1}
+0 RULE <- - <- default: none r: ["a"] { amount=(<1,>=2) } <- {"amount":2}
+0 RULE <- - <- default: none r: ["a"] { metadata="a:":"b" } <- {"metadata":{"a:":"b"}}
+0 RULE <- - <- default: none r: ["a"] { metadata = "a" : "b" metadata = "c" : "d" } <- {"metadata":{"c":"d"}}
+0 RULE <- - <- default: none r: ["a"] { card_bin = "|255*a|" } <- {"card_bin":"|255*a|"}
+0 RULE <- - <- default: none r: ["a"] { card_bin = "é & {" card_bin = "" } <- {"card_bin":"é & {"}
+0 RULE <- - <- default: none r: ["a"] { amount = 9223372036854775807 } <- {"amount":9223372036854775807}
+0 RULE <- - <- default: none r: ["a"] { amount > -9223372036854775808 } <- {"amount":0}
+0 RULE <- - <- default: none r: ["a"] { amount = 00009223372036854775807 } <- {"amount":9223372036854775807}
+0 RULE <- - <- default: none r: ["a"] { payment_method = (card, wallet) { amount > 5 amount < 2 & amount /= 1 } } <- {"payment_method":"wallet","amount":0}
+0 {"type":"none"} <- - <- default: none r: ["a"] { payment_method = (card, wallet) { amount > 5 amount < 2 & amount /= 1 } } <- {"payment_method":"wallet","amount":1}
+0 RULE <- - <- default: none r: ["a"] { |31*amount = 1 { |amount = 1 |31*} | } <- {"amount":1}
+0 RULE <- - <- default: none r: ["a"] { |16383*amount = 2 |amount = 1 } <- {"amount":1}
+0 RULE <- - <- default: none r: ["a"] { |16383*amount = 1 & |amount = 1 } <- {"amount":1}
+0 RULE <- - <- default: none r: ["a"] { amount = (|4095*1, |2) } <- {"amount":2}
+0 RULE <- - <- default: none r: ["a"] { payment_method = (|4095*card, |wallet) } <- {"payment_method":"wallet"}
+0 RULE <- - <- default: none r: ["a"] { amount = (|4095*<1, |>2) } <- {"amount":3}
+0 RULE <- - <- default: none r: ["a"] { amount <= 5 & |15*metadata = "a" : "b" & |amount >= 5 & metadata = "c" : "d" } <- {"amount":5,"metadata":{"a":"b","c":"d"}}
+0 {"type":"none"} <- - <- default: none r: ["a"] { amount <= 5 & |15*metadata = "a" : "b" & |amount >= 5 & metadata = "c" : "d" } <- {"amount":5,"metadata":{"a":"b","c":"e"}}
+0 {"type":"none"} <- - <- default: none r: ["a"] {  } <- {}
+0 RULE <- - <- default!:'^ none^^r'!:["a"]!{^payment_method!=card}' <- {"payment_method":"card"}
+0 RULE <- - <- default:split["a"@"b"%3,"c"%97]"r":["a"]{amount>0&payment_method/=(card,wallet){amount<=5}amount>=9} <- {"amount":5,"payment_method":"bank_transfer"}
+0 {"data":[{"connector":{"connector":"a","merchant_connector_id":"b"},"split":3},{"connector":{"connector":"c","merchant_connector_id":null},"split":97}],"type":"volume_split"} <- - <- default:split["a"@"b"%3,"c"%97]"r":["a"]{amount>0&payment_method/=(card,wallet){amount<=5}amount>=9} <- {"amount":6,"payment_method":"bank_transfer"}
+0 = rule 1 "split"^{"data":[{"connector":"a","merchant_connector_id":null}],"type":"priority"}^ <- [[key]]^name = "default"^kind = "enum"^variants = ["none", "split", "rate"]^[[key]]^name = "split"^kind = "number" <- default: none default: none { default = none & split > 3 } split: ["a"] { default = (rate, split) } none: none { } <- {"default":"rate","split":9}
+0 = rule 255 "r"^{"type":"none"}^ <- - <- default: none |255*"": none { } |r: none { card_bin = "" } <- {"card_bin":""}
+0 {"data":{"basis_points":10000},"type":"surcharge_rate"} <- - <- default: rate 10000 <- {}
+0 {"data":{"basis_points":0},"type":"surcharge_rate"} <- - <- default: rate 0 <- {}
+0 {"data":{"amount":9223372036854775807},"type":"surcharge_fixed"} <- - <- default: surcharge 9223372036854775807 <- {}
+0 {"data":{"amount":0},"type":"surcharge_fixed"} <- - <- default: surcharge -0 <- {}
+0 {"data":{"decision":"three_ds"},"type":"three_ds"} <- - <- default: three_ds <- {}
+0 {"data":{"decision":"no_three_ds"},"type":"three_ds"} <- - <- default: no_three_ds <- {}
+0 {"data":[],"type":"priority"} <- - <- default: [] <- {}
+0 {"data":[{"connector":"","merchant_connector_id":""}],"type":"priority"} <- - <- default: ["" @ ""] <- {}
+3 refused program type 6 default selection <- - <- default: split ["a" % 255] <- {}
+0 {"data":[],"type":"volume_split"} <- - <- default: split [] <- {}
+3 refused program type 1 0 0 <- - <- default: none r: ["a"] { default = 1 } <- {}
+3 refused program type 1 0 2 <- - <- default: none r: ["a"] { amount = 1 amount = 2 { colour = red } } <- {}
+3 refused program type 2 0 0 <- - <- default: none r: ["a"] { amount = card } <- {}
 3 refused program json 1 "" <- - <- { <- {}
 3 refused program json 1 "" <- - <- PROGRAM ]}]} -> ]}]}, <- {}
 3 refused program json 1 "" <- - <- PROGRAM stripe -> ` <- {}
@@ -667,6 +881,92 @@ const DECISIONS: &str =
 3 refused program type 7 0 selection <- - <- PROGRAM {"type":"priority","data":[{"connector":"stripe"}]} -> {"type":"surcharge_fixed","data":{"amount":1}} <- [
 3 refused program type 6 default selection <- - <- PROGRAM {"type":"priority","data":[{"connector":"stripe"}]} -> {"type":"volume_split","data":[{"connector":{"connector":"a"},"split":1}]} <- {}"##;
 
+// Conversions. A line begins as above. Behind the arrows stand the form that is asked for, and the program.
+const CONVERSIONS: &str =
+    r##"0 = {"defaultSelection":{"data":[{"connector":{"connector":"a","merchant_connector_id":null},"split":60},{"connector":{"connector":"b","merchant_connector_id":"x"},"split":40}],"type":"volume_split"},"metadata":{},"rules":[{"connectorSelection":{"data":[{"connector":"adyen","merchant_connector_id":"mca_2"},{"connector":"stripe","merchant_connector_id":null}],"type":"priority"},"name":"all forms","statements":[{"condition":[{"comparison":"equal","lhs":"amount","metadata":{},"value":{"type":"number","value":1}},{"comparison":"not_equal","lhs":"amount","metadata":{},"value":{"type":"number","value":-5}},{"comparison":"less_than","lhs":"amount","metadata":{},"value":{"type":"number","value":9223372036854775807}},{"comparison":"less_than_equal","lhs":"amount","metadata":{},"value":{"type":"number","value":-9223372036854775808}},{"comparison":"greater_than","lhs":"amount","metadata":{},"value":{"type":"number","value":0}},{"comparison":"greater_than_equal","lhs":"amount","metadata":{},"value":{"type":"number","value":2}}],"nested":[{"condition":[{"comparison":"equal","lhs":"payment_method","metadata":{},"value":{"type":"enum_variant","value":"card"}}],"nested":null},{"condition":[{"comparison":"not_equal","lhs":"payment_method","metadata":{},"value":{"type":"enum_variant_array","value":["card","wallet"]}}],"nested":[{"condition":[{"comparison":"equal","lhs":"card_bin","metadata":{},"value":{"type":"str_value","value":"é t"}}],"nested":null}]}]},{"condition":[{"comparison":"equal","lhs":"metadata","metadata":{},"value":{"type":"metadata_variant","value":{"key":"a:b","value":""}}}],"nested":null},{"condition":[{"comparison":"equal","lhs":"amount","metadata":{},"value":{"type":"number_array","value":[1,-2,3]}},{"comparison":"equal","lhs":"amount","metadata":{},"value":{"type":"number_comparison_array","value":[{"comparisonType":"less_than","number":1},{"comparisonType":"greater_than_equal","number":2},{"comparisonType":"equal","number":3},{"comparisonType":"not_equal","number":4},{"comparisonType":"less_than_equal","number":5},{"comparisonType":"greater_than","number":6}]}}],"nested":null}]},{"connectorSelection":{"data":{"amount":0},"type":"surcharge_fixed"},"name":"","statements":[]},{"connectorSelection":{"data":{"basis_points":10000},"type":"surcharge_rate"},"name":"default","statements":[{"condition":[{"comparison":"equal","lhs":"amount","metadata":{},"value":{"type":"number","value":1}}],"nested":null}]},{"connectorSelection":{"data":{"decision":"three_ds"},"type":"three_ds"},"name":"a :{}[](),&@%","statements":[]},{"connectorSelection":{"data":{"decision":"no_three_ds"},"type":"three_ds"},"name":"split","statements":[]},{"connectorSelection":{"type":"none"},"name":"none","statements":[]}]}^ <- json <- default: split ["a" % 60, "b" @ "x" % 40]^"all forms": ["adyen" @ "mca_2", "stripe"] {^  amount = 1 & amount /= -5 & amount < 9223372036854775807 & amount <= -9223372036854775808 & amount > 0 & amount >= 2 {^    payment_method = card^    payment_method /= (card, wallet) {^      card_bin = "é t"^    }^  }^  metadata = "a:b" : ""^  amount = (1, -2, 3) & amount = (< 1, >= 2, = 3, /= 4, <= 5, > 6)^}^"": surcharge 0 {^}^"default": rate 10000 {^  amount = 1^}^"a :{}[](),&@%": three_ds {^}^"split": no_three_ds {^}^"none": none {^}^
+0 = default: split ["a" % 60, "b" @ "x" % 40]^"all forms": ["adyen" @ "mca_2", "stripe"] {^  amount = 1 & amount /= -5 & amount < 9223372036854775807 & amount <= -9223372036854775808 & amount > 0 & amount >= 2 {^    payment_method = card^    payment_method /= (card, wallet) {^      card_bin = "é t"^    }^  }^  metadata = "a:b" : ""^  amount = (1, -2, 3) & amount = (< 1, >= 2, = 3, /= 4, <= 5, > 6)^}^"": surcharge 0 {^}^"default": rate 10000 {^  amount = 1^}^"a :{}[](),&@%": three_ds {^}^"split": no_three_ds {^}^"none": none {^}^ <- text <- {"defaultSelection":{"data":[{"connector":{"connector":"a","merchant_connector_id":null},"split":60},{"connector":{"connector":"b","merchant_connector_id":"x"},"split":40}],"type":"volume_split"},"metadata":{},"rules":[{"connectorSelection":{"data":[{"connector":"adyen","merchant_connector_id":"mca_2"},{"connector":"stripe","merchant_connector_id":null}],"type":"priority"},"name":"all forms","statements":[{"condition":[{"comparison":"equal","lhs":"amount","metadata":{},"value":{"type":"number","value":1}},{"comparison":"not_equal","lhs":"amount","metadata":{},"value":{"type":"number","value":-5}},{"comparison":"less_than","lhs":"amount","metadata":{},"value":{"type":"number","value":9223372036854775807}},{"comparison":"less_than_equal","lhs":"amount","metadata":{},"value":{"type":"number","value":-9223372036854775808}},{"comparison":"greater_than","lhs":"amount","metadata":{},"value":{"type":"number","value":0}},{"comparison":"greater_than_equal","lhs":"amount","metadata":{},"value":{"type":"number","value":2}}],"nested":[{"condition":[{"comparison":"equal","lhs":"payment_method","metadata":{},"value":{"type":"enum_variant","value":"card"}}],"nested":null},{"condition":[{"comparison":"not_equal","lhs":"payment_method","metadata":{},"value":{"type":"enum_variant_array","value":["card","wallet"]}}],"nested":[{"condition":[{"comparison":"equal","lhs":"card_bin","metadata":{},"value":{"type":"str_value","value":"é t"}}],"nested":null}]}]},{"condition":[{"comparison":"equal","lhs":"metadata","metadata":{},"value":{"type":"metadata_variant","value":{"key":"a:b","value":""}}}],"nested":null},{"condition":[{"comparison":"equal","lhs":"amount","metadata":{},"value":{"type":"number_array","value":[1,-2,3]}},{"comparison":"equal","lhs":"amount","metadata":{},"value":{"type":"number_comparison_array","value":[{"comparisonType":"less_than","number":1},{"comparisonType":"greater_than_equal","number":2},{"comparisonType":"equal","number":3},{"comparisonType":"not_equal","number":4},{"comparisonType":"less_than_equal","number":5},{"comparisonType":"greater_than","number":6}]}}],"nested":null}]},{"connectorSelection":{"data":{"amount":0},"type":"surcharge_fixed"},"name":"","statements":[]},{"connectorSelection":{"data":{"basis_points":10000},"type":"surcharge_rate"},"name":"default","statements":[{"condition":[{"comparison":"equal","lhs":"amount","metadata":{},"value":{"type":"number","value":1}}],"nested":null}]},{"connectorSelection":{"data":{"decision":"three_ds"},"type":"three_ds"},"name":"a :{}[](),&@%","statements":[]},{"connectorSelection":{"data":{"decision":"no_three_ds"},"type":"three_ds"},"name":"split","statements":[]},{"connectorSelection":{"type":"none"},"name":"none","statements":[]}]}
+0 = {"defaultSelection":{"type":"none"},"metadata":{},"rules":[]}^ <- json <- default: none^
+0 = default: none^ <- text <- {"defaultSelection":{"type":"none"},"metadata":{},"rules":[]}
+0 = {"defaultSelection":{"data":[],"type":"priority"},"metadata":{},"rules":[]}^ <- json <- default: []^
+0 = default: []^ <- text <- {"defaultSelection":{"data":[],"type":"priority"},"metadata":{},"rules":[]}
+0 = {"defaultSelection":{"data":[{"connector":"","merchant_connector_id":null}],"type":"priority"},"metadata":{},"rules":[{"connectorSelection":{"data":[{"connector":"","merchant_connector_id":""}],"type":"priority"},"name":"r","statements":[]}]}^ <- json <- default: [""]^"r": ["" @ ""] {^}^
+0 = default: [""]^"r": ["" @ ""] {^}^ <- text <- {"defaultSelection":{"data":[{"connector":"","merchant_connector_id":null}],"type":"priority"},"metadata":{},"rules":[{"connectorSelection":{"data":[{"connector":"","merchant_connector_id":""}],"type":"priority"},"name":"r","statements":[]}]}
+0 = {"defaultSelection":{"data":[],"type":"volume_split"},"metadata":{},"rules":[]}^ <- json <- default: split []^
+0 = default: split []^ <- text <- {"defaultSelection":{"data":[],"type":"volume_split"},"metadata":{},"rules":[]}
+0 = default: none^"r": none {^  amount = 7^}^ <- text <- default:none^^r!:none{amount=007}'^
+0 = {"defaultSelection":{"type":"none"},"metadata":{},"rules":[{"connectorSelection":{"type":"none"},"name":"r","statements":[{"condition":[{"comparison":"equal","lhs":"amount","metadata":{},"value":{"type":"number","value":0}}],"nested":null}]}]}^ <- json <- default:none r:none{amount=-0}
+0 = default: none^ <- text <- {"type":"advanced","data":{"defaultSelection":{"type":"none"},"metadata":{},"rules":[]}}
+0 = {"defaultSelection":{"type":"none"},"metadata":{},"rules":[]}^ <- json <-  {"defaultSelection":{"type":"none"} , "metadata":{} , "rules":[]} 
+0 = {"defaultSelection":{"type":"none"},"metadata":{},"rules":[{"connectorSelection":{"type":"none"},"name":"r","statements":[{"condition":[{"comparison":"less_than","lhs":"colour","metadata":{},"value":{"type":"enum_variant","value":"x"}}],"nested":null}]}]}^ <- json <- default: none r: none { colour < x }
+0 = default: none^"|255*r|": none {^|0*x|  amount = (|4095*1, |1)^}^ <- text <- {"defaultSelection":{"type":"none"},"rules":[{"name":"|255*r|","connectorSelection":{"type":"none"},"statements":[{"condition":[{"lhs":"amount","comparison":"equal","value":{"type":"number_array","value":[|4095*1,|1]}}]}]}]}
+3 refused convert 1 default <- text <- {"defaultSelection":{"data":[{"connector":"a\"b","merchant_connector_id":null}],"type":"priority"},"metadata":{},"rules":[]}
+0 = {"defaultSelection":{"data":[{"connector":"a\"b","merchant_connector_id":null}],"type":"priority"},"metadata":{},"rules":[]}^ <- json <- {"defaultSelection":{"data":[{"connector":"a\"b","merchant_connector_id":null}],"type":"priority"},"metadata":{},"rules":[]}
+3 refused convert 1 default <- text <- {"defaultSelection":{"data":[{"connector":"a","merchant_connector_id":"b\n"}],"type":"priority"},"metadata":{},"rules":[]}
+0 = {"defaultSelection":{"data":[{"connector":"a","merchant_connector_id":"b\n"}],"type":"priority"},"metadata":{},"rules":[]}^ <- json <- {"defaultSelection":{"data":[{"connector":"a","merchant_connector_id":"b\n"}],"type":"priority"},"metadata":{},"rules":[]}
+3 refused convert 1 default <- text <- {"defaultSelection":{"data":[{"connector":{"connector":"a","merchant_connector_id":null},"split":1},{"connector":{"connector":"b\"","merchant_connector_id":null},"split":1}],"type":"volume_split"},"metadata":{},"rules":[]}
+0 = {"defaultSelection":{"data":[{"connector":{"connector":"a","merchant_connector_id":null},"split":1},{"connector":{"connector":"b\"","merchant_connector_id":null},"split":1}],"type":"volume_split"},"metadata":{},"rules":[]}^ <- json <- {"defaultSelection":{"data":[{"connector":{"connector":"a","merchant_connector_id":null},"split":1},{"connector":{"connector":"b\"","merchant_connector_id":null},"split":1}],"type":"volume_split"},"metadata":{},"rules":[]}
+3 refused convert 1 default <- text <- {"defaultSelection":{"data":[{"connector":{"connector":"a","merchant_connector_id":"\""},"split":1}],"type":"volume_split"},"metadata":{},"rules":[{"connectorSelection":{"type":"none"},"name":"r\"","statements":[]}]}
+0 = {"defaultSelection":{"data":[{"connector":{"connector":"a","merchant_connector_id":"\""},"split":1}],"type":"volume_split"},"metadata":{},"rules":[{"connectorSelection":{"type":"none"},"name":"r\"","statements":[]}]}^ <- json <- {"defaultSelection":{"data":[{"connector":{"connector":"a","merchant_connector_id":"\""},"split":1}],"type":"volume_split"},"metadata":{},"rules":[{"connectorSelection":{"type":"none"},"name":"r\"","statements":[]}]}
+3 refused convert 1 0 <- text <- {"defaultSelection":{"type":"none"},"metadata":{},"rules":[{"connectorSelection":{"type":"none"},"name":"r\"","statements":[]}]}
+0 = {"defaultSelection":{"type":"none"},"metadata":{},"rules":[{"connectorSelection":{"type":"none"},"name":"r\"","statements":[]}]}^ <- json <- {"defaultSelection":{"type":"none"},"metadata":{},"rules":[{"connectorSelection":{"type":"none"},"name":"r\"","statements":[]}]}
+3 refused convert 1 0 <- text <- {"defaultSelection":{"type":"none"},"metadata":{},"rules":[{"connectorSelection":{"type":"none"},"name":"r\n","statements":[]}]}
+0 = {"defaultSelection":{"type":"none"},"metadata":{},"rules":[{"connectorSelection":{"type":"none"},"name":"r\n","statements":[]}]}^ <- json <- {"defaultSelection":{"type":"none"},"metadata":{},"rules":[{"connectorSelection":{"type":"none"},"name":"r\n","statements":[]}]}
+3 refused convert 1 0 <- text <- {"defaultSelection":{"type":"none"},"metadata":{},"rules":[{"connectorSelection":{"data":[{"connector":"a\"","merchant_connector_id":null}],"type":"priority"},"name":"r","statements":[]}]}
+0 = {"defaultSelection":{"type":"none"},"metadata":{},"rules":[{"connectorSelection":{"data":[{"connector":"a\"","merchant_connector_id":null}],"type":"priority"},"name":"r","statements":[]}]}^ <- json <- {"defaultSelection":{"type":"none"},"metadata":{},"rules":[{"connectorSelection":{"data":[{"connector":"a\"","merchant_connector_id":null}],"type":"priority"},"name":"r","statements":[]}]}
+3 refused convert 1 0 <- text <- {"defaultSelection":{"type":"none"},"metadata":{},"rules":[{"connectorSelection":{"type":"none"},"name":"r","statements":[{"condition":[],"nested":null}]}]}
+0 = {"defaultSelection":{"type":"none"},"metadata":{},"rules":[{"connectorSelection":{"type":"none"},"name":"r","statements":[{"condition":[],"nested":null}]}]}^ <- json <- {"defaultSelection":{"type":"none"},"metadata":{},"rules":[{"connectorSelection":{"type":"none"},"name":"r","statements":[{"condition":[],"nested":null}]}]}
+3 refused convert 1 0 <- text <- {"defaultSelection":{"type":"none"},"metadata":{},"rules":[{"connectorSelection":{"type":"none"},"name":"r","statements":[{"condition":[{"comparison":"equal","lhs":"amount","metadata":{},"value":{"type":"number","value":1}}],"nested":[]}]}]}
+0 = {"defaultSelection":{"type":"none"},"metadata":{},"rules":[{"connectorSelection":{"type":"none"},"name":"r","statements":[{"condition":[{"comparison":"equal","lhs":"amount","metadata":{},"value":{"type":"number","value":1}}],"nested":[]}]}]}^ <- json <- {"defaultSelection":{"type":"none"},"metadata":{},"rules":[{"connectorSelection":{"type":"none"},"name":"r","statements":[{"condition":[{"comparison":"equal","lhs":"amount","metadata":{},"value":{"type":"number","value":1}}],"nested":[]}]}]}
+3 refused convert 1 0 <- text <- {"defaultSelection":{"type":"none"},"metadata":{},"rules":[{"connectorSelection":{"type":"none"},"name":"r","statements":[{"condition":[{"comparison":"equal","lhs":"amount","metadata":{},"value":{"type":"number","value":1}}],"nested":[{"condition":[{"comparison":"equal","lhs":"amount","metadata":{},"value":{"type":"number","value":1}}],"nested":[{"condition":[],"nested":null}]}]}]}]}
+0 = {"defaultSelection":{"type":"none"},"metadata":{},"rules":[{"connectorSelection":{"type":"none"},"name":"r","statements":[{"condition":[{"comparison":"equal","lhs":"amount","metadata":{},"value":{"type":"number","value":1}}],"nested":[{"condition":[{"comparison":"equal","lhs":"amount","metadata":{},"value":{"type":"number","value":1}}],"nested":[{"condition":[],"nested":null}]}]}]}]}^ <- json <- {"defaultSelection":{"type":"none"},"metadata":{},"rules":[{"connectorSelection":{"type":"none"},"name":"r","statements":[{"condition":[{"comparison":"equal","lhs":"amount","metadata":{},"value":{"type":"number","value":1}}],"nested":[{"condition":[{"comparison":"equal","lhs":"amount","metadata":{},"value":{"type":"number","value":1}}],"nested":[{"condition":[],"nested":null}]}]}]}]}
+3 refused convert 1 0 <- text <- {"defaultSelection":{"type":"none"},"metadata":{},"rules":[{"connectorSelection":{"type":"none"},"name":"r","statements":[{"condition":[{"comparison":"equal","lhs":"amount","metadata":{},"value":{"type":"number","value":1}}],"nested":null},{"condition":[{"comparison":"equal","lhs":"amount","metadata":{},"value":{"type":"number_array","value":[]}}],"nested":null}]}]}
+0 = {"defaultSelection":{"type":"none"},"metadata":{},"rules":[{"connectorSelection":{"type":"none"},"name":"r","statements":[{"condition":[{"comparison":"equal","lhs":"amount","metadata":{},"value":{"type":"number","value":1}}],"nested":null},{"condition":[{"comparison":"equal","lhs":"amount","metadata":{},"value":{"type":"number_array","value":[]}}],"nested":null}]}]}^ <- json <- {"defaultSelection":{"type":"none"},"metadata":{},"rules":[{"connectorSelection":{"type":"none"},"name":"r","statements":[{"condition":[{"comparison":"equal","lhs":"amount","metadata":{},"value":{"type":"number","value":1}}],"nested":null},{"condition":[{"comparison":"equal","lhs":"amount","metadata":{},"value":{"type":"number_array","value":[]}}],"nested":null}]}]}
+3 refused convert 1 0 <- text <- {"defaultSelection":{"type":"none"},"metadata":{},"rules":[{"connectorSelection":{"type":"none"},"name":"r","statements":[{"condition":[{"comparison":"equal","lhs":"amount","metadata":{},"value":{"type":"number","value":1}}],"nested":null},{"condition":[{"comparison":"equal","lhs":"amount","metadata":{},"value":{"type":"enum_variant_array","value":[]}}],"nested":null}]}]}
+0 = {"defaultSelection":{"type":"none"},"metadata":{},"rules":[{"connectorSelection":{"type":"none"},"name":"r","statements":[{"condition":[{"comparison":"equal","lhs":"amount","metadata":{},"value":{"type":"number","value":1}}],"nested":null},{"condition":[{"comparison":"equal","lhs":"amount","metadata":{},"value":{"type":"enum_variant_array","value":[]}}],"nested":null}]}]}^ <- json <- {"defaultSelection":{"type":"none"},"metadata":{},"rules":[{"connectorSelection":{"type":"none"},"name":"r","statements":[{"condition":[{"comparison":"equal","lhs":"amount","metadata":{},"value":{"type":"number","value":1}}],"nested":null},{"condition":[{"comparison":"equal","lhs":"amount","metadata":{},"value":{"type":"enum_variant_array","value":[]}}],"nested":null}]}]}
+3 refused convert 1 0 <- text <- {"defaultSelection":{"type":"none"},"metadata":{},"rules":[{"connectorSelection":{"type":"none"},"name":"r","statements":[{"condition":[{"comparison":"equal","lhs":"amount","metadata":{},"value":{"type":"number","value":1}}],"nested":null},{"condition":[{"comparison":"equal","lhs":"amount","metadata":{},"value":{"type":"number_comparison_array","value":[]}}],"nested":null}]}]}
+0 = {"defaultSelection":{"type":"none"},"metadata":{},"rules":[{"connectorSelection":{"type":"none"},"name":"r","statements":[{"condition":[{"comparison":"equal","lhs":"amount","metadata":{},"value":{"type":"number","value":1}}],"nested":null},{"condition":[{"comparison":"equal","lhs":"amount","metadata":{},"value":{"type":"number_comparison_array","value":[]}}],"nested":null}]}]}^ <- json <- {"defaultSelection":{"type":"none"},"metadata":{},"rules":[{"connectorSelection":{"type":"none"},"name":"r","statements":[{"condition":[{"comparison":"equal","lhs":"amount","metadata":{},"value":{"type":"number","value":1}}],"nested":null},{"condition":[{"comparison":"equal","lhs":"amount","metadata":{},"value":{"type":"number_comparison_array","value":[]}}],"nested":null}]}]}
+3 refused convert 1 0 <- text <- {"defaultSelection":{"type":"none"},"metadata":{},"rules":[{"connectorSelection":{"type":"none"},"name":"r","statements":[{"condition":[{"comparison":"equal","lhs":"amount","metadata":{},"value":{"type":"number","value":1}}],"nested":null},{"condition":[{"comparison":"equal","lhs":"amount","metadata":{},"value":{"type":"str_value","value":"\""}}],"nested":null}]}]}
+0 = {"defaultSelection":{"type":"none"},"metadata":{},"rules":[{"connectorSelection":{"type":"none"},"name":"r","statements":[{"condition":[{"comparison":"equal","lhs":"amount","metadata":{},"value":{"type":"number","value":1}}],"nested":null},{"condition":[{"comparison":"equal","lhs":"amount","metadata":{},"value":{"type":"str_value","value":"\""}}],"nested":null}]}]}^ <- json <- {"defaultSelection":{"type":"none"},"metadata":{},"rules":[{"connectorSelection":{"type":"none"},"name":"r","statements":[{"condition":[{"comparison":"equal","lhs":"amount","metadata":{},"value":{"type":"number","value":1}}],"nested":null},{"condition":[{"comparison":"equal","lhs":"amount","metadata":{},"value":{"type":"str_value","value":"\""}}],"nested":null}]}]}
+3 refused convert 1 0 <- text <- {"defaultSelection":{"type":"none"},"metadata":{},"rules":[{"connectorSelection":{"type":"none"},"name":"r","statements":[{"condition":[{"comparison":"equal","lhs":"amount","metadata":{},"value":{"type":"number","value":1}}],"nested":null},{"condition":[{"comparison":"equal","lhs":"amount","metadata":{},"value":{"type":"str_value","value":"a\nb"}}],"nested":null}]}]}
+0 = {"defaultSelection":{"type":"none"},"metadata":{},"rules":[{"connectorSelection":{"type":"none"},"name":"r","statements":[{"condition":[{"comparison":"equal","lhs":"amount","metadata":{},"value":{"type":"number","value":1}}],"nested":null},{"condition":[{"comparison":"equal","lhs":"amount","metadata":{},"value":{"type":"str_value","value":"a\nb"}}],"nested":null}]}]}^ <- json <- {"defaultSelection":{"type":"none"},"metadata":{},"rules":[{"connectorSelection":{"type":"none"},"name":"r","statements":[{"condition":[{"comparison":"equal","lhs":"amount","metadata":{},"value":{"type":"number","value":1}}],"nested":null},{"condition":[{"comparison":"equal","lhs":"amount","metadata":{},"value":{"type":"str_value","value":"a\nb"}}],"nested":null}]}]}
+3 refused convert 1 0 <- text <- {"defaultSelection":{"type":"none"},"metadata":{},"rules":[{"connectorSelection":{"type":"none"},"name":"r","statements":[{"condition":[{"comparison":"equal","lhs":"amount","metadata":{},"value":{"type":"number","value":1}}],"nested":null},{"condition":[{"comparison":"equal","lhs":"amount","metadata":{},"value":{"type":"metadata_variant","value":{"key":"\"","value":"a"}}}],"nested":null}]}]}
+0 = {"defaultSelection":{"type":"none"},"metadata":{},"rules":[{"connectorSelection":{"type":"none"},"name":"r","statements":[{"condition":[{"comparison":"equal","lhs":"amount","metadata":{},"value":{"type":"number","value":1}}],"nested":null},{"condition":[{"comparison":"equal","lhs":"amount","metadata":{},"value":{"type":"metadata_variant","value":{"key":"\"","value":"a"}}}],"nested":null}]}]}^ <- json <- {"defaultSelection":{"type":"none"},"metadata":{},"rules":[{"connectorSelection":{"type":"none"},"name":"r","statements":[{"condition":[{"comparison":"equal","lhs":"amount","metadata":{},"value":{"type":"number","value":1}}],"nested":null},{"condition":[{"comparison":"equal","lhs":"amount","metadata":{},"value":{"type":"metadata_variant","value":{"key":"\"","value":"a"}}}],"nested":null}]}]}
+3 refused convert 1 0 <- text <- {"defaultSelection":{"type":"none"},"metadata":{},"rules":[{"connectorSelection":{"type":"none"},"name":"r","statements":[{"condition":[{"comparison":"equal","lhs":"amount","metadata":{},"value":{"type":"number","value":1}}],"nested":null},{"condition":[{"comparison":"equal","lhs":"amount","metadata":{},"value":{"type":"metadata_variant","value":{"key":"a","value":"\n"}}}],"nested":null}]}]}
+0 = {"defaultSelection":{"type":"none"},"metadata":{},"rules":[{"connectorSelection":{"type":"none"},"name":"r","statements":[{"condition":[{"comparison":"equal","lhs":"amount","metadata":{},"value":{"type":"number","value":1}}],"nested":null},{"condition":[{"comparison":"equal","lhs":"amount","metadata":{},"value":{"type":"metadata_variant","value":{"key":"a","value":"\n"}}}],"nested":null}]}]}^ <- json <- {"defaultSelection":{"type":"none"},"metadata":{},"rules":[{"connectorSelection":{"type":"none"},"name":"r","statements":[{"condition":[{"comparison":"equal","lhs":"amount","metadata":{},"value":{"type":"number","value":1}}],"nested":null},{"condition":[{"comparison":"equal","lhs":"amount","metadata":{},"value":{"type":"metadata_variant","value":{"key":"a","value":"\n"}}}],"nested":null}]}]}
+3 refused convert 1 0 <- text <- {"defaultSelection":{"type":"none"},"metadata":{},"rules":[{"connectorSelection":{"type":"none"},"name":"r","statements":[{"condition":[{"comparison":"equal","lhs":"amount","metadata":{},"value":{"type":"number","value":1}}],"nested":null},{"condition":[{"comparison":"equal","lhs":"amount","metadata":{},"value":{"type":"enum_variant","value":""}}],"nested":null}]}]}
+0 = {"defaultSelection":{"type":"none"},"metadata":{},"rules":[{"connectorSelection":{"type":"none"},"name":"r","statements":[{"condition":[{"comparison":"equal","lhs":"amount","metadata":{},"value":{"type":"number","value":1}}],"nested":null},{"condition":[{"comparison":"equal","lhs":"amount","metadata":{},"value":{"type":"enum_variant","value":""}}],"nested":null}]}]}^ <- json <- {"defaultSelection":{"type":"none"},"metadata":{},"rules":[{"connectorSelection":{"type":"none"},"name":"r","statements":[{"condition":[{"comparison":"equal","lhs":"amount","metadata":{},"value":{"type":"number","value":1}}],"nested":null},{"condition":[{"comparison":"equal","lhs":"amount","metadata":{},"value":{"type":"enum_variant","value":""}}],"nested":null}]}]}
+3 refused convert 1 0 <- text <- {"defaultSelection":{"type":"none"},"metadata":{},"rules":[{"connectorSelection":{"type":"none"},"name":"r","statements":[{"condition":[{"comparison":"equal","lhs":"amount","metadata":{},"value":{"type":"number","value":1}}],"nested":null},{"condition":[{"comparison":"equal","lhs":"amount","metadata":{},"value":{"type":"enum_variant","value":"a b"}}],"nested":null}]}]}
+0 = {"defaultSelection":{"type":"none"},"metadata":{},"rules":[{"connectorSelection":{"type":"none"},"name":"r","statements":[{"condition":[{"comparison":"equal","lhs":"amount","metadata":{},"value":{"type":"number","value":1}}],"nested":null},{"condition":[{"comparison":"equal","lhs":"amount","metadata":{},"value":{"type":"enum_variant","value":"a b"}}],"nested":null}]}]}^ <- json <- {"defaultSelection":{"type":"none"},"metadata":{},"rules":[{"connectorSelection":{"type":"none"},"name":"r","statements":[{"condition":[{"comparison":"equal","lhs":"amount","metadata":{},"value":{"type":"number","value":1}}],"nested":null},{"condition":[{"comparison":"equal","lhs":"amount","metadata":{},"value":{"type":"enum_variant","value":"a b"}}],"nested":null}]}]}
+3 refused convert 1 0 <- text <- {"defaultSelection":{"type":"none"},"metadata":{},"rules":[{"connectorSelection":{"type":"none"},"name":"r","statements":[{"condition":[{"comparison":"equal","lhs":"amount","metadata":{},"value":{"type":"number","value":1}}],"nested":null},{"condition":[{"comparison":"equal","lhs":"amount","metadata":{},"value":{"type":"enum_variant","value":"9a"}}],"nested":null}]}]}
+0 = {"defaultSelection":{"type":"none"},"metadata":{},"rules":[{"connectorSelection":{"type":"none"},"name":"r","statements":[{"condition":[{"comparison":"equal","lhs":"amount","metadata":{},"value":{"type":"number","value":1}}],"nested":null},{"condition":[{"comparison":"equal","lhs":"amount","metadata":{},"value":{"type":"enum_variant","value":"9a"}}],"nested":null}]}]}^ <- json <- {"defaultSelection":{"type":"none"},"metadata":{},"rules":[{"connectorSelection":{"type":"none"},"name":"r","statements":[{"condition":[{"comparison":"equal","lhs":"amount","metadata":{},"value":{"type":"number","value":1}}],"nested":null},{"condition":[{"comparison":"equal","lhs":"amount","metadata":{},"value":{"type":"enum_variant","value":"9a"}}],"nested":null}]}]}
+3 refused convert 1 0 <- text <- {"defaultSelection":{"type":"none"},"metadata":{},"rules":[{"connectorSelection":{"type":"none"},"name":"r","statements":[{"condition":[{"comparison":"equal","lhs":"amount","metadata":{},"value":{"type":"number","value":1}}],"nested":null},{"condition":[{"comparison":"equal","lhs":"amount","metadata":{},"value":{"type":"enum_variant","value":"é"}}],"nested":null}]}]}
+0 = {"defaultSelection":{"type":"none"},"metadata":{},"rules":[{"connectorSelection":{"type":"none"},"name":"r","statements":[{"condition":[{"comparison":"equal","lhs":"amount","metadata":{},"value":{"type":"number","value":1}}],"nested":null},{"condition":[{"comparison":"equal","lhs":"amount","metadata":{},"value":{"type":"enum_variant","value":"é"}}],"nested":null}]}]}^ <- json <- {"defaultSelection":{"type":"none"},"metadata":{},"rules":[{"connectorSelection":{"type":"none"},"name":"r","statements":[{"condition":[{"comparison":"equal","lhs":"amount","metadata":{},"value":{"type":"number","value":1}}],"nested":null},{"condition":[{"comparison":"equal","lhs":"amount","metadata":{},"value":{"type":"enum_variant","value":"é"}}],"nested":null}]}]}
+3 refused convert 1 0 <- text <- {"defaultSelection":{"type":"none"},"metadata":{},"rules":[{"connectorSelection":{"type":"none"},"name":"r","statements":[{"condition":[{"comparison":"equal","lhs":"amount","metadata":{},"value":{"type":"number","value":1}}],"nested":null},{"condition":[{"comparison":"equal","lhs":"amount","metadata":{},"value":{"type":"enum_variant_array","value":["a","a-b"]}}],"nested":null}]}]}
+0 = {"defaultSelection":{"type":"none"},"metadata":{},"rules":[{"connectorSelection":{"type":"none"},"name":"r","statements":[{"condition":[{"comparison":"equal","lhs":"amount","metadata":{},"value":{"type":"number","value":1}}],"nested":null},{"condition":[{"comparison":"equal","lhs":"amount","metadata":{},"value":{"type":"enum_variant_array","value":["a","a-b"]}}],"nested":null}]}]}^ <- json <- {"defaultSelection":{"type":"none"},"metadata":{},"rules":[{"connectorSelection":{"type":"none"},"name":"r","statements":[{"condition":[{"comparison":"equal","lhs":"amount","metadata":{},"value":{"type":"number","value":1}}],"nested":null},{"condition":[{"comparison":"equal","lhs":"amount","metadata":{},"value":{"type":"enum_variant_array","value":["a","a-b"]}}],"nested":null}]}]}
+3 refused convert 1 0 <- text <- {"defaultSelection":{"type":"none"},"metadata":{},"rules":[{"connectorSelection":{"type":"none"},"name":"r","statements":[{"condition":[{"comparison":"equal","lhs":"amount","metadata":{},"value":{"type":"number","value":1}}],"nested":null},{"condition":[{"comparison":"equal","lhs":"","metadata":{},"value":{"type":"number","value":1}}],"nested":null}]}]}
+0 = {"defaultSelection":{"type":"none"},"metadata":{},"rules":[{"connectorSelection":{"type":"none"},"name":"r","statements":[{"condition":[{"comparison":"equal","lhs":"amount","metadata":{},"value":{"type":"number","value":1}}],"nested":null},{"condition":[{"comparison":"equal","lhs":"","metadata":{},"value":{"type":"number","value":1}}],"nested":null}]}]}^ <- json <- {"defaultSelection":{"type":"none"},"metadata":{},"rules":[{"connectorSelection":{"type":"none"},"name":"r","statements":[{"condition":[{"comparison":"equal","lhs":"amount","metadata":{},"value":{"type":"number","value":1}}],"nested":null},{"condition":[{"comparison":"equal","lhs":"","metadata":{},"value":{"type":"number","value":1}}],"nested":null}]}]}
+3 refused convert 1 0 <- text <- {"defaultSelection":{"type":"none"},"metadata":{},"rules":[{"connectorSelection":{"type":"none"},"name":"r","statements":[{"condition":[{"comparison":"equal","lhs":"amount","metadata":{},"value":{"type":"number","value":1}}],"nested":null},{"condition":[{"comparison":"equal","lhs":"a b","metadata":{},"value":{"type":"number","value":1}}],"nested":null}]}]}
+0 = {"defaultSelection":{"type":"none"},"metadata":{},"rules":[{"connectorSelection":{"type":"none"},"name":"r","statements":[{"condition":[{"comparison":"equal","lhs":"amount","metadata":{},"value":{"type":"number","value":1}}],"nested":null},{"condition":[{"comparison":"equal","lhs":"a b","metadata":{},"value":{"type":"number","value":1}}],"nested":null}]}]}^ <- json <- {"defaultSelection":{"type":"none"},"metadata":{},"rules":[{"connectorSelection":{"type":"none"},"name":"r","statements":[{"condition":[{"comparison":"equal","lhs":"amount","metadata":{},"value":{"type":"number","value":1}}],"nested":null},{"condition":[{"comparison":"equal","lhs":"a b","metadata":{},"value":{"type":"number","value":1}}],"nested":null}]}]}
+3 refused convert 1 0 <- text <- {"defaultSelection":{"type":"none"},"metadata":{},"rules":[{"connectorSelection":{"type":"none"},"name":"r","statements":[{"condition":[{"comparison":"equal","lhs":"amount","metadata":{},"value":{"type":"number","value":1}}],"nested":null},{"condition":[{"comparison":"equal","lhs":"9","metadata":{},"value":{"type":"number","value":1}}],"nested":null}]}]}
+0 = {"defaultSelection":{"type":"none"},"metadata":{},"rules":[{"connectorSelection":{"type":"none"},"name":"r","statements":[{"condition":[{"comparison":"equal","lhs":"amount","metadata":{},"value":{"type":"number","value":1}}],"nested":null},{"condition":[{"comparison":"equal","lhs":"9","metadata":{},"value":{"type":"number","value":1}}],"nested":null}]}]}^ <- json <- {"defaultSelection":{"type":"none"},"metadata":{},"rules":[{"connectorSelection":{"type":"none"},"name":"r","statements":[{"condition":[{"comparison":"equal","lhs":"amount","metadata":{},"value":{"type":"number","value":1}}],"nested":null},{"condition":[{"comparison":"equal","lhs":"9","metadata":{},"value":{"type":"number","value":1}}],"nested":null}]}]}
+3 refused convert 1 0 <- text <- {"defaultSelection":{"type":"none"},"metadata":{},"rules":[{"connectorSelection":{"type":"none"},"name":"r","statements":[{"condition":[{"comparison":"equal","lhs":"amount","metadata":{},"value":{"type":"number","value":1}}],"nested":null},{"condition":[{"comparison":"equal","lhs":"a.b","metadata":{},"value":{"type":"number","value":1}}],"nested":null}]}]}
+0 = {"defaultSelection":{"type":"none"},"metadata":{},"rules":[{"connectorSelection":{"type":"none"},"name":"r","statements":[{"condition":[{"comparison":"equal","lhs":"amount","metadata":{},"value":{"type":"number","value":1}}],"nested":null},{"condition":[{"comparison":"equal","lhs":"a.b","metadata":{},"value":{"type":"number","value":1}}],"nested":null}]}]}^ <- json <- {"defaultSelection":{"type":"none"},"metadata":{},"rules":[{"connectorSelection":{"type":"none"},"name":"r","statements":[{"condition":[{"comparison":"equal","lhs":"amount","metadata":{},"value":{"type":"number","value":1}}],"nested":null},{"condition":[{"comparison":"equal","lhs":"a.b","metadata":{},"value":{"type":"number","value":1}}],"nested":null}]}]}
+3 refused convert 1 0 <- text <- {"defaultSelection":{"type":"none"},"metadata":{},"rules":[{"connectorSelection":{"type":"none"},"name":"r","statements":[{"condition":[{"comparison":"equal","lhs":"amount","metadata":{},"value":{"type":"number","value":1}}],"nested":null},{"condition":[{"comparison":"equal","lhs":"é","metadata":{},"value":{"type":"number","value":1}}],"nested":null}]}]}
+0 = {"defaultSelection":{"type":"none"},"metadata":{},"rules":[{"connectorSelection":{"type":"none"},"name":"r","statements":[{"condition":[{"comparison":"equal","lhs":"amount","metadata":{},"value":{"type":"number","value":1}}],"nested":null},{"condition":[{"comparison":"equal","lhs":"é","metadata":{},"value":{"type":"number","value":1}}],"nested":null}]}]}^ <- json <- {"defaultSelection":{"type":"none"},"metadata":{},"rules":[{"connectorSelection":{"type":"none"},"name":"r","statements":[{"condition":[{"comparison":"equal","lhs":"amount","metadata":{},"value":{"type":"number","value":1}}],"nested":null},{"condition":[{"comparison":"equal","lhs":"é","metadata":{},"value":{"type":"number","value":1}}],"nested":null}]}]}
+3 refused convert 1 3 <- text <- {"defaultSelection":{"type":"none"},"metadata":{},"rules":[{"connectorSelection":{"type":"none"},"name":"r","statements":[{"condition":[{"comparison":"equal","lhs":"amount","metadata":{},"value":{"type":"number","value":1}}],"nested":null}]},{"connectorSelection":{"type":"none"},"name":"r","statements":[{"condition":[{"comparison":"equal","lhs":"amount","metadata":{},"value":{"type":"number","value":1}}],"nested":null}]},{"connectorSelection":{"type":"none"},"name":"r","statements":[{"condition":[{"comparison":"equal","lhs":"amount","metadata":{},"value":{"type":"number","value":1}}],"nested":null}]},{"connectorSelection":{"type":"none"},"name":"r","statements":[{"condition":[],"nested":null}]}]}
+0 = {"defaultSelection":{"type":"none"},"metadata":{},"rules":[{"connectorSelection":{"type":"none"},"name":"r","statements":[{"condition":[{"comparison":"equal","lhs":"amount","metadata":{},"value":{"type":"number","value":1}}],"nested":null}]},{"connectorSelection":{"type":"none"},"name":"r","statements":[{"condition":[{"comparison":"equal","lhs":"amount","metadata":{},"value":{"type":"number","value":1}}],"nested":null}]},{"connectorSelection":{"type":"none"},"name":"r","statements":[{"condition":[{"comparison":"equal","lhs":"amount","metadata":{},"value":{"type":"number","value":1}}],"nested":null}]},{"connectorSelection":{"type":"none"},"name":"r","statements":[{"condition":[],"nested":null}]}]}^ <- json <- {"defaultSelection":{"type":"none"},"metadata":{},"rules":[{"connectorSelection":{"type":"none"},"name":"r","statements":[{"condition":[{"comparison":"equal","lhs":"amount","metadata":{},"value":{"type":"number","value":1}}],"nested":null}]},{"connectorSelection":{"type":"none"},"name":"r","statements":[{"condition":[{"comparison":"equal","lhs":"amount","metadata":{},"value":{"type":"number","value":1}}],"nested":null}]},{"connectorSelection":{"type":"none"},"name":"r","statements":[{"condition":[{"comparison":"equal","lhs":"amount","metadata":{},"value":{"type":"number","value":1}}],"nested":null}]},{"connectorSelection":{"type":"none"},"name":"r","statements":[{"condition":[],"nested":null}]}]}
+3 refused convert 1 1 <- text <- {"defaultSelection":{"type":"none"},"metadata":{},"rules":[{"connectorSelection":{"type":"none"},"name":"r","statements":[{"condition":[{"comparison":"equal","lhs":"amount","metadata":{},"value":{"type":"number","value":1}}],"nested":null}]},{"connectorSelection":{"type":"none"},"name":"r","statements":[{"condition":[],"nested":null}]},{"connectorSelection":{"type":"none"},"name":"r","statements":[{"condition":[{"comparison":"equal","lhs":"amount","metadata":{},"value":{"type":"number","value":1}}],"nested":null}]},{"connectorSelection":{"type":"none"},"name":"r\"","statements":[]}]}
+0 = {"defaultSelection":{"type":"none"},"metadata":{},"rules":[{"connectorSelection":{"type":"none"},"name":"r","statements":[{"condition":[{"comparison":"equal","lhs":"amount","metadata":{},"value":{"type":"number","value":1}}],"nested":null}]},{"connectorSelection":{"type":"none"},"name":"r","statements":[{"condition":[],"nested":null}]},{"connectorSelection":{"type":"none"},"name":"r","statements":[{"condition":[{"comparison":"equal","lhs":"amount","metadata":{},"value":{"type":"number","value":1}}],"nested":null}]},{"connectorSelection":{"type":"none"},"name":"r\"","statements":[]}]}^ <- json <- {"defaultSelection":{"type":"none"},"metadata":{},"rules":[{"connectorSelection":{"type":"none"},"name":"r","statements":[{"condition":[{"comparison":"equal","lhs":"amount","metadata":{},"value":{"type":"number","value":1}}],"nested":null}]},{"connectorSelection":{"type":"none"},"name":"r","statements":[{"condition":[],"nested":null}]},{"connectorSelection":{"type":"none"},"name":"r","statements":[{"condition":[{"comparison":"equal","lhs":"amount","metadata":{},"value":{"type":"number","value":1}}],"nested":null}]},{"connectorSelection":{"type":"none"},"name":"r\"","statements":[]}]}
+3 refused convert 1 255 <- text <- {"defaultSelection":{"type":"none"},"metadata":{},"rules":[|255*{"connectorSelection":{"type":"none"},"name":"r","statements":[]},|{"connectorSelection":{"type":"none"},"name":"\"","statements":[]}]}
+0 = {"defaultSelection":{"type":"none"},"metadata":{},"rules":[|255*{"connectorSelection":{"type":"none"},"name":"r","statements":[]},|{"connectorSelection":{"type":"none"},"name":"\"","statements":[]}]}^ <- json <- {"defaultSelection":{"type":"none"},"metadata":{},"rules":[|255*{"connectorSelection":{"type":"none"},"name":"r","statements":[]},|{"connectorSelection":{"type":"none"},"name":"\"","statements":[]}]}
+3 refused program text 6 8 <- json <- default none
+3 refused program text 4 1 <- text <- a`
+3 refused program json 2 "/defaultSelection" <- text <- {}"##;
+
+// A program of which each front up to a `~` is refused at its end, and each up to a `?` is a program.
+const FRONTS: &str =
+    r#"default~:~ [~"stripe"~ @~ "mca_1"~]?^"big card"~:~ [~"adyen"~ @~ "mca_2"~,~ "stripe"~ @~ "mca_1"~]~ {~^  payment_method~ =~ card~ &~ amount~ >~ 100000~ {~^    currency~ =~ (~USD~,~ EUR~)~^    metadata~ =~ "tier"~ :~ "gold"~^  }~^}?^"split"~:~ split~ [~"stripe"~ @~ "mca_1"~ %~ 60~,~ "adyen"~ @~ "mca_2"~ %~ 40~]~ {~^  payment_method~ =~ card~ &~ card_network~ /=~ Visa~^}?^"wallets"~:~ [~"paypal"~]~ {~^  payment_method~ =~ (~wallet~,~ pay_later~)~^}?"#;
+
 const PROGRAM: &str =
     r#"{"defaultSelection":{"type":"priority","data":[{"connector":"stripe"}]},"rules":[{"name":"cards","connectorSelection":{"type":"priority","data":[{"connector":"adyen"}]},"statements":[{"condition":[{"lhs":"payment_method","comparison":"equal","value":{"type":"enum_variant","value":"card"}}]}]}]}"#;
 
@@ -685,6 +985,12 @@ const CARDS: &str =
 
 const DEFAULT: &str =
     "default\n{\"data\":[{\"connector\":\"stripe\",\"merchant_connector_id\":null}],\"type\":\"priority\"}\n";
+
+const STRIPE: &str =
+    "default\n{\"data\":[{\"connector\":\"stripe\",\"merchant_connector_id\":\"mca_1\"}],\"type\":\"priority\"}\n";
+
+const RULE: &str =
+    "rule 0 \"r\"\n{\"data\":[{\"connector\":\"a\",\"merchant_connector_id\":null}],\"type\":\"priority\"}\n";
 
 const USAGE: &str =
     "usage: euclidc decide K P PAY | report K P S B | prove K P S T B | check K P S T C | convert P json|text | sample N\n";
@@ -709,6 +1015,10 @@ fn file_of(alloc: Global, text: &str) -> Result<String, AllocError> {
 fn byte_of(sign: u8) -> u8 {
     match sign {
         b'^' => b'\n',
+        b'!' => b'\t',
+        b'\'' => b'\r',
+        b'$' => 0x0c,
+        b'?' => 0,
         b'`' => 0xff,
         byte => byte,
     }
@@ -760,7 +1070,7 @@ fn words_of(rt: &impl AllocGlobal, line: &str) -> Result<Vec<String>, Fail> {
 fn outcome(rt: &impl AllocGlobal, case: &str, command: &str, room: usize) -> Result<String, Fail> {
     let mut shelf = shelf_of(rt, case)?;
     let mut out = MemSink::new(rt.alloc(), Some(room as u64));
-    out.reserve(4096)?;
+    out.reserve(32_768)?;
     let words = words_of(rt, command)?;
     let number = euclidc(rt.alloc(), &words, &mut shelf, &mut out).number();
     let (reads, puts) = (shelf.faults(), out.faults());
@@ -790,8 +1100,13 @@ fn text_of(rt: &impl AllocGlobal, line: &str) -> Result<String, Fail> {
     let text = match line {
         "CARDS" => CARDS,
         "DEFAULT" => DEFAULT,
+        "RULE" => RULE,
+        "STRIPE" => STRIPE,
         "USAGE" => USAGE,
         "" => "",
+        line if line.starts_with("= ") => {
+            return Ok(line[2..].replace(rt.alloc(), "^", "\n")?);
+        }
         line if line.starts_with('{') => {
             return Ok(format!(in rt.alloc(); "default\n{line}\n")?);
         }
@@ -855,6 +1170,22 @@ fn command_text(alloc: Global, answer: &str, word: &str) -> Result<String, Alloc
     format!(in alloc; "{answer}\n$ decide {word} P PAY\n")
 }
 
+// The case that a line of CONVERSIONS stands for.
+fn conversion_of(alloc: Global, line: &str) -> Option<String> {
+    let (answer, words) = line.split_once(" <- ")?;
+    let (form, program) = words.split_once(" <- ")?;
+    format!(in alloc; "{answer}\n$ convert P {form}\nP {program}\n").ok()
+}
+
+// The case of a front of a program, which is a program or is refused at its end.
+fn front_of(alloc: Global, front: &str, is_program: bool) -> Result<String, AllocError> {
+    if is_program {
+        return format!(in alloc; "0 STRIPE\n$ decide - P PAY\nP {front}\nPAY {{}}\n");
+    }
+    let end = front.len();
+    format!(in alloc; "3 refused program text 6 {end}\n$ decide - P PAY\nP {front}\nPAY {{}}\n")
+}
+
 fn files_text(
     alloc: Global,
     keys: &str,
@@ -869,6 +1200,45 @@ fn programs_decide(rt: HostRuntime) -> Result<(), Fail> {
     for line in expanded(rt.alloc(), DECISIONS)?.lines() {
         let case = case_of(rt.alloc(), line).ok_or(line)?;
         check_case(&rt, case.as_str())?;
+    }
+    Ok(())
+}
+
+#[test]
+fn programs_are_converted(rt: HostRuntime) -> Result<(), Fail> {
+    for line in expanded(rt.alloc(), CONVERSIONS)?.lines() {
+        let case = conversion_of(rt.alloc(), line).ok_or(line)?;
+        check_case(&rt, case.as_str())?;
+    }
+    Ok(())
+}
+
+#[test]
+fn a_program_has_both_forms(rt: HostRuntime) -> Result<(), Fail> {
+    match read_json(rt.alloc(), PROGRAM.as_bytes()) {
+        Ok(program) => {
+            let forms = both_forms(rt.alloc(), &program).ok().ok_or("it has")?;
+            assert_eq!(&rt;
+                forms.0.as_str(),
+                "default: [\"stripe\"]\n\"cards\": [\"adyen\"] {\n  payment_method = card\n}\n"
+            );
+            assert_eq!(&rt; forms.1.as_str().len(), 395);
+        }
+        Err(_) => return Err("it is a program".into()),
+    }
+    Ok(())
+}
+
+#[test]
+fn fronts_of_a_program_are_refused_at_their_ends(rt: HostRuntime) -> Result<(), Fail> {
+    let mut front = String::new(rt.alloc());
+    for sign in FRONTS.chars() {
+        if sign == '~' || sign == '?' {
+            let case = front_of(rt.alloc(), front.as_str(), sign == '?')?;
+            check_case(&rt, case.as_str())?;
+        } else {
+            front.push(sign)?;
+        }
     }
     Ok(())
 }

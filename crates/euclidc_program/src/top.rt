@@ -7,6 +7,7 @@ ghost use Rattle.euclidc_program.specs.Top.{Finishes, PutGives, Meets, Keeps, Le
 
 use crate::answer::{Answer, Halt};
 use crate::command::Command;
+use crate::convert::run_convert;
 use crate::decide::run_decide;
 use crate::status::{Status, Verdict};
 use crate::words::command;
@@ -55,6 +56,7 @@ fn outcome<F: Shelf>(alloc: Global, shelf: &mut F, command: Command<'_>) -> Resu
         Command::Decide(source, program_name, payment_name) => {
             run_decide(alloc, shelf, source, program_name, payment_name)
         }
+        Command::Convert(form, program_name) => run_convert(alloc, shelf, form, program_name),
         Command::Unbuilt => Err(unbuilt_command(alloc)),
     }
 }

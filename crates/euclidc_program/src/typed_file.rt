@@ -2,12 +2,13 @@ ghost use Rattle.std.specs.Prelude.{◌≡◌, [], ◌∷◌, ◌++◌, string_b
 ghost use Rattle.dir_typing.specs.Typed.{Typed};
 ghost use Rattle.euclid_ast.specs.declared.program.Program.{Program};
 ghost use Rattle.euclidc_program.specs.declared.status.Verdict.TheVariants.{Refused};
-ghost use Rattle.euclidc_program.specs.TypedFiles.{rule_text, place_text, type_refusal, typed_file};
+ghost use Rattle.euclidc_program.specs.Refusals.{rule_place};
+ghost use Rattle.euclidc_program.specs.TypedFiles.{place_text, type_refusal, typed_file};
 ghost use Rattle.euclidc_program.specs.Stages.{Gives, HaltsWith};
 
 use crate::answer::Halt;
 use crate::program_file::read_program;
-use crate::refusal::refused;
+use crate::refusal::{refused, rule_place};
 use dir_typing::{DirProgram, Place, TypeFault, type_program};
 use euclid_ast::Program;
 use key_table::{KeyTable, Stop};
@@ -44,23 +45,13 @@ fn refused_type(alloc: Global, fault: TypeFault) -> Halt
 
 // The rule and the place of a fault.
 fn where_text(alloc: Global, fault: TypeFault) -> Result<String, AllocError>
-    ensures { IfOk result (λ s. string_bytes s ≡ rule_text fault.rule ++ 32 ∷ place_text fault.place) }
+    ensures { IfOk result (λ s. string_bytes s ≡ rule_place fault.rule ++ 32 ∷ place_text fault.place) }
 {
-    let rule = rule_text(alloc, fault.rule)?;
+    let rule = rule_place(alloc, fault.rule)?;
     let rule = rule.as_str();
     let place = place_text(alloc, fault.place)?;
     let place = place.as_str();
     format!(in alloc; "{rule} {place}")
-}
-
-#[tactic(auto, unfolding(crate::specs::TypedFiles::rule_text))]
-fn rule_text(alloc: Global, rule: Option<u32>) -> Result<String, AllocError>
-    ensures { IfOk result (λ s. string_bytes s ≡ rule_text rule) }
-{
-    match rule {
-        Some(rule) => rule.to_string(alloc),
-        None => String::from_str(alloc, "default"),
-    }
 }
 
 #[tactic(auto, unfolding(crate::specs::TypedFiles::place_text))]

@@ -1,10 +1,10 @@
-ghost use Rattle.std.specs.Prelude.{◌≡◌, ◌||◌, [], ◌∷◌, if◌then◌else◌, Some, None, codes, option_map};
+ghost use Rattle.std.specs.Prelude.{◌≡◌, [], ◌∷◌, if◌then◌else◌, Some, None, option_map};
 ghost use Rattle.euclidc_program.specs.Commands.{command_of, source_of, Unbuilt};
 ghost use Rattle.euclidc_program.specs.CommandViews.{command_in, command_view, source_view};
-ghost use Rattle.euclidc_program.specs.Words.{all_accept, report_form, prove_form, check_form, convert_form, sample_form, is_number, is_target};
+ghost use Rattle.euclidc_program.specs.Words.{all_accept, report_form, prove_form, check_form, sample_form, is_number, is_target};
 ghost use Rattle.euclidc_program.specs.Unpadded.{is_unpadded};
 
-use crate::command::{Command, TableSource};
+use crate::command::{Command, Form, TableSource};
 
 const MOST_SPLITS: u32 = 65_536;
 
@@ -16,7 +16,7 @@ pub fn command(words: &[String]) -> Option<Command<'_>>
 {
     match words {
         [verb, seed] => unbuilt(is_sample(verb, seed)),
-        [verb, program_name, form] => unbuilt(is_convert(verb, program_name, form)),
+        [verb, program_name, form] => convert_command(verb, program_name, form),
         [verb, table_word, program_name, payment_name] => decide_command(
             verb,
             table_word,
@@ -50,6 +50,21 @@ fn decide_command<'a>(
         return None;
     }
     Some(Command::Decide(source(table_word), program_name, payment_name))
+}
+
+fn convert_command<'a>(verb: &str, program_name: &'a str, form: &str) -> Option<Command<'a>>
+    ensures { option_map command_view result ≡ command_of (verb.now ∷ program_name.now ∷ form.now ∷ []) }
+{
+    if verb != "convert" || program_name.is_empty() {
+        return None;
+    }
+    if form == "json" {
+        return Some(Command::Convert(Form::Json, program_name));
+    }
+    if form == "text" {
+        return Some(Command::Convert(Form::Text, program_name));
+    }
+    None
 }
 
 // The built-in table for `-`, else the file with this name.
@@ -124,12 +139,6 @@ fn is_check(
         && !settings_name.is_empty()
         && is_target(target)
         && !certificate_name.is_empty()
-}
-
-fn is_convert(verb: &str, program_name: &str, form: &str) -> bool
-    ensures { result ≡ (all_accept (convert_form (codes "json")) (verb.now ∷ program_name.now ∷ form.now ∷ []) || all_accept (convert_form (codes "text")) (verb.now ∷ program_name.now ∷ form.now ∷ [])) }
-{
-    verb == "convert" && !program_name.is_empty() && (form == "json" || form == "text")
 }
 
 fn is_sample(verb: &str, seed: &str) -> bool

@@ -30,7 +30,7 @@ pub(crate) fn statements(
     ensures statements { Answers (λ s. (s, counts.new)) result (each (statement_of levels) path.now 0 (map view nodes.now) counts.old) }
     ensures fit { IfOk result (λ s. list_all (is_statement levels) s ≡ true) }
 {
-    let mut items = Seq::new(alloc);
+    let mut items = Seq::with_capacity(alloc, nodes.len())?;
     for (i, node) in nodes.iter().enumerate() {
         let at = path.item(i)?;
         items.push(statement(alloc, node, &at, levels, counts)?)?;

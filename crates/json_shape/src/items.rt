@@ -41,7 +41,7 @@ pub fn each<R: Reader>(
     ensures fit { IfOk result (λ s. list_all (R.fits reader.now) s ≡ true) }
     ensures few { IfOk result (λ s. length s ≤ length nodes.now) }
 {
-    let mut items = Seq::new(alloc);
+    let mut items = Seq::with_capacity(alloc, nodes.len())?;
     for (i, node) in nodes.iter().enumerate() {
         let at = path.item(i)?;
         items.push(reader.read(alloc, node, &at)?)?;
@@ -90,7 +90,7 @@ pub fn each_counted<R: CountingReader>(
     ensures fit { IfOk result (λ s. list_all (R.fits reader.now) s ≡ true) }
     ensures few { IfOk result (λ s. length s ≤ length nodes.now) }
 {
-    let mut items = Seq::new(alloc);
+    let mut items = Seq::with_capacity(alloc, nodes.len())?;
     for (i, node) in nodes.iter().enumerate() {
         let at = path.item(i)?;
         items.push(reader.read(alloc, node, &at, counts)?)?;

@@ -33,6 +33,15 @@ impl<T> Seq<T> {
         }
     }
 
+    /// The empty list, which has room for so many items.
+    pub fn with_capacity(alloc: Global, capacity: usize) -> Result<Seq<T>, NoMemory>
+        ensures { IfOk result (λ s. s ≡ []) }
+    {
+        Ok(Seq {
+            items: Vec::with_capacity(alloc, capacity)?,
+        })
+    }
+
     /// The items, in order.
     pub fn as_slice(&self) -> &[T]
         ensures { result.now ≡ self.now }
@@ -64,9 +73,7 @@ impl<T: Copied + Drop> Seq<T> {
     pub fn copy(&self) -> Result<Seq<T>, NoMemory>
         ensures { IfOk result (λ s. s ≡ self.now) }
     {
-        let mut copies = Seq {
-            items: Vec::with_capacity(*self.items.allocator(), self.items.len())?,
-        };
+        let mut copies = Seq::with_capacity(*self.items.allocator(), self.items.len())?;
         for item in self.as_slice() {
             copies.push(item.copied()?)?;
         }

@@ -1,18 +1,23 @@
 -- Atoms that are added to groups one by one stand in them by their slots, and are the same atoms.
-use Rattle.std.proofs.Common.{◌≡◌, List, [], ◌∷◌, ◌++◌, map, fold, Bool, true, false, cond, ◌&&◌, ◌||◌, refl, sym, ap, ◌∙◌, subst, append_assoc, append-nil, Some}
+use Rattle.std.proofs.Common.{◌≡◌, ℕ, ◌+◌, ◌<◌, length, take, get_or, List, [], ◌∷◌, ◌++◌, map, fold, Bool, true, false, cond, ◌&&◌, ◌||◌, refl, sym, ap, ◌∙◌, subst, append_assoc, append-nil, Some}
 use Rattle.std.specs.Option.{unwrap_or}
 use Rattle.std.specs.Map.{lookup}
 use Rattle.indexmap.specs.IndexMap.{insert_entry}
-use Rattle.std.specs.List.{list_any, list_all, IsDistinct, AllByRecursion}
+use Rattle.std.specs.List.{list_any, list_all, flat_map, IsDistinct, AllByRecursion}
 use Rattle.std.proofs.lemmas.Bool.{false≢true, or_parts, or_from, false_from_ne_true}
 use Rattle.std.proofs.lemmas.List.Elements.{filter-append}
 use Rattle.std.proofs.lemmas.List.Folds.{list_any-append, list_all-append, flat_map-map}
+use Rattle.std.proofs.lemmas.List.{map-append, take_more}
+use Rattle.std.proofs.lemmas.List.Sums.{fold_push}
+use Rattle.std.proofs.lemmas.Grind.{flat_map-append}
 use Rattle.std.proofs.lemmas.Map.Keys.{IsDistinct-push}
 use Rattle.key_table.specs.declared.slot.Slot.{Slot}
 use Rattle.key_table.specs.declared.atom.Atom.{Atom}
 use Rattle.key_table.specs.contracts.slot.SlotPartialEq.TheImpl as by_equality
 use Rattle.vir_lowering.specs.Grouped.{is_slot, with_slot, slots_of, atoms_at, grouped}
 use Rattle.vir_lowering.specs.Groups.{Groups, with_atom, atoms_of_groups}
+use Rattle.dir_typing.specs.declared.dir.DirComparison.{DirComparison}
+use Rattle.vir_lowering.specs.Atoms.{atom_of}
 use Rattle.vir_lowering.proofs.SameSlots.{is_slot_laws, equal_slots, slots_alike}
 
 abbrev group_at : List Atom → Slot → Slot × List Atom
@@ -136,3 +141,73 @@ module _ (p : Atom → Bool) where
   -- What all atoms pass, all atoms pass by their slots, and the other way round.
   pub grouped_all : (atoms : List Atom) → list_all p (grouped atoms) ≡ list_all p atoms
   grouped_all atoms = ap (list_all p) (sym (groups_joined atoms)) ∙ all_added [] atoms
+
+-- ---- at each slot that is new, all atoms at that slot
+
+among_true : (s t : Slot) (slots : List Slot) → is_slot s t ≡ true → list_any (is_slot t) slots ≡ true → list_any (is_slot s) slots ≡ true
+among_true s t slots same there = ap (λ x. list_any (is_slot x) slots) (equal_slots s t same) ∙ there
+
+or_right : (b : Bool) → (b || false) ≡ b
+or_right true = refl
+or_right false = refl
+
+-- A slot is among the slots with one more exactly where it was among them or is that one.
+with_among : (s t : Slot) (slots : List Slot) → list_any (is_slot s) (with_slot slots t) ≡ (list_any (is_slot s) slots || is_slot s t)
+with_among s t slots =
+    elim (list_any (is_slot t) slots) as (λ b. list_any (is_slot t) slots ≡ b → list_any (is_slot s) (cond b slots (slots ++ t ∷ [])) ≡ (list_any (is_slot s) slots || is_slot s t)) [
+      | true ↦ (λ there. elim (is_slot s t) as (λ b. is_slot s t ≡ b → list_any (is_slot s) slots ≡ (list_any (is_slot s) slots || b)) [
+        | true ↦ (λ same. among_true s t slots same there ∙ sym (ap (λ b. b || true) (among_true s t slots same there)))
+        | false ↦ (λ other. sym (or_right (list_any (is_slot s) slots)))
+      ] refl)
+      | false ↦ (λ new. list_any-append (is_slot s) slots (t ∷ []) ∙ ap (λ b. list_any (is_slot s) slots || b) (or_right (is_slot s t)))
+    ] refl
+
+or_assoc : (x y z : Bool) → ((x || y) || z) ≡ (x || (y || z))
+or_assoc true y z = refl
+or_assoc false y z = refl
+
+-- A slot is among those of first appearance exactly where it is among them all.
+fold_among : (s : Slot) (slots more : List Slot) → list_any (is_slot s) (fold with_slot slots more) ≡ (list_any (is_slot s) slots || list_any (is_slot s) more)
+fold_among s slots [] = sym (or_right (list_any (is_slot s) slots))
+fold_among s slots (t ∷ more) = fold_among s (with_slot slots t) more ∙ ap (λ b. b || list_any (is_slot s) more) (with_among s t slots) ∙ or_assoc (list_any (is_slot s) slots) (is_slot s t) (list_any (is_slot s) more)
+
+-- the slots of comparisons, and the atoms at the slots that the first so many of them have
+abbrev pub slots_alone : List DirComparison → List Slot
+slots_alone cs = map (λ (c : DirComparison). c.slot) cs
+
+abbrev pub placed : List DirComparison → List DirComparison → List Atom
+placed all front = flat_map (atoms_at (map atom_of all)) (fold with_slot [] (slots_alone front))
+
+any_slots : (s : Slot) (cs : List DirComparison) → list_any (λ (c : DirComparison). is_slot s c.slot) cs ≡ list_any (is_slot s) (slots_alone cs)
+any_slots s [] = refl
+any_slots s (c ∷ cs) = ap (λ b. is_slot s c.slot || b) (any_slots s cs)
+
+-- One comparison more, whose slot stands among those before it, or is new.
+known_next : (all front : List DirComparison) (c : DirComparison) (b : Bool) → list_any (λ (d : DirComparison). is_slot c.slot d.slot) front ≡ b
+    → placed all (front ++ c ∷ []) ≡ flat_map (atoms_at (map atom_of all)) (cond b (fold with_slot [] (slots_alone front)) (fold with_slot [] (slots_alone front) ++ c.slot ∷ []))
+known_next all front c b is =
+    let slots = fold with_slot [] (slots_alone front) in
+    let at = flat_map (atoms_at (map atom_of all)) in
+    ap at (ap (fold with_slot []) (map-append (λ (d : DirComparison). d.slot) front (c ∷ [])) ∙ fold_push with_slot [] (slots_alone front) c.slot)
+    ∙ ap (λ b. at (cond b slots (slots ++ c.slot ∷ []))) (fold_among c.slot [] (slots_alone front) ∙ sym (any_slots c.slot front) ∙ is)
+
+pub placed_known : (all : List DirComparison) (i : ℕ) (c : DirComparison) (atoms : List Atom) → i < length all → c ≡ get_or all i c → atoms ≡ placed all (take i all)
+    → list_any (λ (d : DirComparison). is_slot c.slot d.slot) (take i all) ≡ true → atoms ≡ placed all (take (i + 1) all)
+placed_known all i c atoms within is so_far known =
+    so_far ∙ sym (known_next all (take i all) c true known) ∙ sym (ap (placed all) (take_more all i c within ∙ ap (λ d. take i all ++ d ∷ []) (sym is)))
+
+pub placed_new : (all : List DirComparison) (i : ℕ) (c : DirComparison) (atoms : List Atom) → i < length all → c ≡ get_or all i c → atoms ≡ placed all (take i all)
+    → list_any (λ (d : DirComparison). is_slot c.slot d.slot) (take i all) ≡ false → atoms ++ atoms_at (map atom_of all) c.slot ≡ placed all (take (i + 1) all)
+placed_new all i c atoms within is so_far new =
+    let slots = fold with_slot [] (slots_alone (take i all)) in
+    let at = flat_map (atoms_at (map atom_of all)) in
+    ap (λ xs. xs ++ atoms_at (map atom_of all) c.slot) so_far ∙ ap (λ xs. at slots ++ xs) (sym (append-nil (atoms_at (map atom_of all) c.slot)))
+    ∙ sym (flat_map-append (atoms_at (map atom_of all)) slots (c.slot ∷ [])) ∙ sym (known_next all (take i all) c false new)
+    ∙ sym (ap (placed all) (take_more all i c within ∙ ap (λ d. take i all ++ d ∷ []) (sym is)))
+
+slots_of_all : (cs : List DirComparison) → map (λ (a : Atom). a.slot) (map atom_of cs) ≡ slots_alone cs
+slots_of_all [] = refl
+slots_of_all (c ∷ cs) = ap (λ ss. c.slot ∷ ss) (slots_of_all cs)
+
+pub all_placed : (all : List DirComparison) → placed all all ≡ grouped (map atom_of all)
+all_placed all = ap (λ ss. flat_map (atoms_at (map atom_of all)) (fold with_slot [] ss)) (sym (slots_of_all all))

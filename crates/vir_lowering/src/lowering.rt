@@ -27,7 +27,7 @@ pub fn lower(alloc: Global, table: &KeyTable, program: &DirProgram) -> Result<Vi
 fn rules(alloc: Global, rules: &[DirRule]) -> Result<Seq<VirRule>, NoMemory>
     ensures { IfOk result (λ r. r ≡ map valued_rule rules.now) }
 {
-    let mut valued = Seq::new(alloc);
+    let mut valued = Seq::with_capacity(alloc, rules.len())?;
     for source in rules {
         valued.push(rule(alloc, source)?)?;
     }
@@ -48,7 +48,7 @@ fn rule(alloc: Global, rule: &DirRule) -> Result<VirRule, NoMemory>
 fn statements(alloc: Global, statements: &[DirStatement]) -> Result<Seq<VirStatement>, NoMemory>
     ensures { IfOk result (λ s. s ≡ map valued_statement statements.now) }
 {
-    let mut valued = Seq::new(alloc);
+    let mut valued = Seq::with_capacity(alloc, statements.len())?;
     for source in statements {
         valued.push(statement(alloc, source)?)?;
     }

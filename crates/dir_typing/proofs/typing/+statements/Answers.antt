@@ -26,11 +26,11 @@ statement-returns t c =
     nests c.in_ok-condition.ensures c.in_ok-nested.ensures
 
 pub statements-loop-source-init : goal.statements-loop-source-init
-statements-loop-source-init t c = (numbered-none _ _, c.new-typed.ensures, omega arith)
+statements-loop-source-init t c = (numbered-none _ _, c.in_ok-typed.ensures, omega arith)
 
 pub statements-returns-in_err-statement : goal.statements-returns-in_err-statement
 statements-returns-in_err-statement t c =
-    let p = err_from_is_err_and c.from_residual.result c.from_residual.ensures.1 in
+    let p = err_from_is_err_and c.from_residual-in_err-statement.result c.from_residual-in_err-statement.ensures.1 in
     rw (p.1, p.2) (part-fails c.in_err-statement.field-0.0 (comparison_faults c.args.table.now c.args.rule) c.args.next.now c.loop-source.next
     (comparisons_in (take c.loop-source.source-index c.args.statements.now)) (comparisons_of c.source-item.result) _ (comparisons_in c.args.statements.now) _ _
     (flat_map-split comparisons_of c.args.statements.now c.loop-source.source-index c.source-item.result c.loop-source-test.true c.source-item.is)

@@ -6,11 +6,11 @@ use Rattle.dir_typing.proofs.Judged.{numbered-none, one-fails, one-clean, judged
 use Rattle.dir_typing.proofs.typing.comparisons.Goals as goal
 
 pub loop-source-init : goal.loop-source-init
-loop-source-init c = (numbered-none _ _, c.new-typed.ensures, omega arith)
+loop-source-init c = (numbered-none _ _, c.in_ok-typed.ensures, omega arith)
 
 pub returns-in_err-comparison : goal.returns-in_err-comparison
 returns-in_err-comparison c =
-    let p = err_from_is_err_and c.from_residual.result c.from_residual.ensures.1 in
+    let p = err_from_is_err_and c.from_residual-in_err-comparison.result c.from_residual-in_err-comparison.ensures.1 in
     rw (p.1, p.2) (one-fails c.in_err-comparison.field-0.0 (comparison_faults c.args.table.now c.args.rule) c.args.next.now c.loop-source.next c.args.comparisons.now c.loop-source.source-index c.source-item.result _ _
     c.loop-source-test.true c.source-item.is c.loop-source.invariant.0 c.loop-source.invariant.2 c.in_err-comparison.ensures)
 

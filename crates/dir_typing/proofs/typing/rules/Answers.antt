@@ -6,11 +6,11 @@ use Rattle.dir_typing.proofs.Judged.{numbered-none, one-fails, one-clean, judged
 use Rattle.dir_typing.proofs.typing.rules.Goals as goal
 
 pub loop-source-init : goal.loop-source-init
-loop-source-init c = (numbered-none _ _, c.new-typed.ensures, omega arith)
+loop-source-init c = (numbered-none _ _, c.in_ok-typed.ensures, omega arith)
 
 pub returns-in_err-rule : goal.returns-in_err-rule
 returns-in_err-rule c =
-    let p = err_from_is_err_and c.from_residual.result c.from_residual.ensures.1 in
+    let p = err_from_is_err_and c.from_residual-in_err-rule.result c.from_residual-in_err-rule.ensures.1 in
     rw (p.1, p.2) (one-fails c.in_err-rule.field-0.0 (rule_faults c.args.table.now c.args.first) 0 c.loop-source.number c.args.rules.now c.loop-source.source-index c.source-item.result _ _
     c.loop-source-test.true c.source-item.is c.loop-source.invariant.0 (omega (arith, c.loop-source.invariant.2)) c.in_err-rule.ensures)
 

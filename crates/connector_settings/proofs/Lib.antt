@@ -1,0 +1,9 @@
+pub mod AtomsFit
+pub mod Counts
+pub mod GraphOf
+pub mod Known
+pub mod Listed
+pub mod Nodes
+pub mod Plans
+pub mod Walks
+pub mod Weights

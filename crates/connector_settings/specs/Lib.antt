@@ -1,0 +1,15 @@
+pub use Rattle.key_table.specs.Answers
+pub use Rattle.key_table.specs.Payments
+pub use Rattle.constraint_graph.specs.Values
+pub mod Acceptances
+pub mod Amounts
+pub mod Demands
+pub mod Fit
+pub mod GraphOf
+pub mod Keys
+pub mod Layout
+pub mod Reading
+pub mod Takes
+pub mod Walks
+pub mod Weights
+pub mod Words

@@ -1,0 +1,10 @@
+pub mod Commas
+pub mod Leaves
+pub mod Levels
+pub mod Measured
+pub mod ProgramLimits
+pub mod Quoted
+pub mod Totals
+pub mod TreeLimits
+pub mod Trees
+pub mod Written

@@ -1,0 +1,10 @@
+pub use Rattle.euclid_lexer.specs.Pieces
+pub use Rattle.euclid_lexer.specs.Tokens
+pub use Rattle.euclid_ast.specs.Limits
+pub mod Marks
+pub mod Grammar
+pub mod Fits
+pub mod Faults
+pub mod Texts
+pub mod Laws
+pub mod OwnTrees

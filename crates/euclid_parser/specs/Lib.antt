@@ -1,0 +1,9 @@
+pub use Rattle.key_table.specs.Answers
+pub use Rattle.euclid_ast.specs.Limits
+pub use Rattle.euclid_lexer.specs.Tokens
+pub use Rattle.euclid_grammar.specs.Faults
+pub use Rattle.euclid_grammar.specs.Texts
+pub mod Parsing
+pub mod Reader
+pub mod Reading
+pub mod TextFiles
