@@ -1,8 +1,8 @@
 //! Whether payments are legal, and whether atoms fit and hold.
 
 use crate::cases::expanded;
-use crate::values::{payment, slot};
-use key_table::{Atom, KeyTable, Op, Payment, Seq, Test, Text, atom_holds};
+use crate::values::{atom, payment};
+use key_table::{Atom, KeyTable, Payment, atom_holds};
 use std::alloc::Global;
 use std::collections::BTreeSet;
 use std::test::Fail;
@@ -83,46 +83,6 @@ const ATOMS: &str = "1111 0=variant:0 any 0 variant:0
 1111 0=variant:0;1=number:10;3/a=text:a any 3/a text:a text:b
 1011 0=variant:0;1=number:9;3/a=text:a any 3/a text:b text:a
 0011 0=variant:0;2/a=text:a any 0 variant:0 variant:1";
-
-fn op(word: &str) -> Op {
-    match word {
-        "=" => Op::Equal,
-        "!=" => Op::NotEqual,
-        "<" => Op::Less,
-        "<=" => Op::LessEqual,
-        ">" => Op::Greater,
-        _ => Op::GreaterEqual,
-    }
-}
-
-// A test, as its kind or its operator, and what it asks for.
-fn test(alloc: Global, word: &str) -> Option<Test> {
-    let (kind, value) = word.split_once(':')?;
-    Some(match kind {
-        "variant" => Test::Variant(value.parse().ok()?),
-        "text" => Test::Text(Text::from_str(alloc, value).ok()?),
-        _ => Test::Number(op(kind), value.parse().ok()?),
-    })
-}
-
-fn tests(alloc: Global, words: &str) -> Option<Seq<Test>> {
-    let mut tests = Seq::new(alloc);
-    for word in words.split_ascii_whitespace() {
-        tests.push(test(alloc, word)?).ok()?;
-    }
-    Some(tests)
-}
-
-// An atom, as `any` or `none`, its slot and its tests.
-fn atom(alloc: Global, text: &str) -> Option<Atom> {
-    let (how, rest) = text.split_once(' ')?;
-    let (place, words) = rest.split_once(' ').unwrap_or((rest, ""));
-    Some(Atom {
-        slot: slot(alloc, place)?,
-        none_of: how == "none",
-        tests: tests(alloc, words)?,
-    })
-}
 
 // Whether each slot of a payment is legal.
 fn slots_fit(table: &KeyTable, payment: &Payment) -> bool {

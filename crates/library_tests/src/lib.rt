@@ -7,10 +7,14 @@ mod atoms;
 #[cfg(test)]
 mod cases;
 #[cfg(test)]
+mod graphs;
+#[cfg(test)]
 mod payment_files;
 #[cfg(test)]
 mod payments;
 #[cfg(test)]
 mod programs;
+#[cfg(test)]
+mod settings_files;
 #[cfg(test)]
 mod values;

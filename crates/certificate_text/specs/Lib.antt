@@ -1,0 +1,16 @@
+pub use Rattle.key_table.specs.Answers
+pub use Rattle.key_table.specs.Atoms
+pub use Rattle.key_table.specs.Tables
+pub mod CodeValues
+pub mod Forms
+pub mod Items
+pub mod Laws
+pub mod Limits
+pub mod Lines
+pub mod Named
+pub mod Numbered
+pub mod Reading
+pub mod Spelled
+pub mod Texts
+pub mod Views
+pub mod Walks

@@ -1,0 +1,16 @@
+pub use Rattle.key_table.specs.Atoms
+pub use Rattle.key_table.specs.Contexts
+pub use Rattle.key_table.specs.Payments
+pub use Rattle.key_table.specs.Tables
+pub use Rattle.rule_problem.specs.Problems
+pub use Rattle.rule_problem.specs.Proving
+pub mod Assumed
+pub mod Candidates
+pub mod Chains
+pub mod Decisions
+pub mod Judging
+pub mod Laws
+pub mod Representatives
+pub mod Trails
+pub mod Tries
+pub mod Turning

@@ -1,0 +1,9 @@
+pub mod DomainLemmas
+pub mod FindingLemmas
+pub mod Gaps
+pub mod Hulls
+pub mod IntervalLemmas
+pub mod Steps
+pub mod TextLemmas
+pub mod ValueLemmas
+pub mod Walks

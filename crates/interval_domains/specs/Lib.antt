@@ -1,0 +1,10 @@
+pub use Rattle.key_table.specs.Atoms
+pub use Rattle.key_table.specs.OptionSets
+pub use Rattle.key_table.specs.Options
+pub use Rattle.key_table.specs.Tables
+pub mod Finding
+pub mod Intervals
+pub mod Members
+pub mod Picks
+pub mod TextLists
+pub mod VariantSets

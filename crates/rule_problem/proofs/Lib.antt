@@ -1,0 +1,14 @@
+pub mod Assigned
+pub mod Bounds
+pub mod Fewer
+pub mod Fit
+pub mod GraphAtoms
+pub mod Lively
+pub mod Names
+pub mod OneVerdict
+pub mod Outcome
+pub mod Places
+pub mod Readings
+pub mod Settled
+pub mod Soundness
+pub mod Weaker

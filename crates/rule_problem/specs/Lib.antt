@@ -1,0 +1,22 @@
+pub use Rattle.key_table.specs.Atoms
+pub use Rattle.key_table.specs.Contexts
+pub use Rattle.key_table.specs.Options
+pub use Rattle.key_table.specs.Payments
+pub use Rattle.key_table.specs.Slots
+pub use Rattle.key_table.specs.Tables
+pub use Rattle.constraint_graph.specs.Graphs
+pub use Rattle.constraint_graph.specs.Laws as GraphLaws
+pub use Rattle.constraint_graph.specs.Logics
+pub use Rattle.constraint_graph.specs.Values
+pub mod ContextLaws
+pub mod Distinct
+pub mod Goals
+pub mod Laws
+pub mod Literals
+pub mod Open
+pub mod Problems
+pub mod Proving
+pub mod Quantifiers
+pub mod Reasons
+pub mod Traces
+pub mod Trees
