@@ -1,0 +1,6 @@
+mod ContextLemmas
+mod KeptLemmas
+mod NodeLemmas
+mod PathLemmas
+mod PaymentLemmas
+mod SlotLemmas

@@ -1,0 +1,7 @@
+use Rattle.constraint_graph.specs.Logics.{three_valued}
+use Rattle.constraint_graph.specs.Values.{carried}
+use Rattle.domain_store.proofs.NodeLemmas.{greatest_is}
+use Rattle.domain_store.proofs.nodes.greatest.Goals as goal
+
+pub returns : goal.returns
+returns c = greatest_is (carried three_valued c.args.before.now) c.args.edges.now c.loop-edge.edge-index c.loop-edge.greatest c.loop-edge-test.false c.loop-edge.invariant

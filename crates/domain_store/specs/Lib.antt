@@ -1,0 +1,16 @@
+pub use Rattle.key_table.specs.Contexts
+pub use Rattle.key_table.specs.OptionSets
+pub use Rattle.key_table.specs.Options
+pub use Rattle.key_table.specs.Payments
+pub use Rattle.key_table.specs.Tables
+pub use Rattle.interval_domains.specs.Members
+pub use Rattle.interval_domains.specs.Picks
+pub use Rattle.rule_problem.specs.Goals
+pub use Rattle.rule_problem.specs.Literals
+pub use Rattle.rule_problem.specs.Problems
+pub mod Kept
+pub mod NodeVerdicts
+pub mod PickedPayments
+pub mod StoreLaws
+pub mod Stores
+pub mod Verdicts

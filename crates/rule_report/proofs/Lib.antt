@@ -1,0 +1,14 @@
+pub mod Alls
+pub mod Fitting
+pub mod Growth
+pub mod Images
+pub mod Made
+pub mod Once
+pub mod PathLemmas
+pub mod Places
+pub mod Said
+pub mod SatLaws
+pub mod SharedLemmas
+pub mod TakenLemmas
+pub mod Walks
+pub mod Weights

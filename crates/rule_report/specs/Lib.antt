@@ -1,0 +1,15 @@
+pub use Rattle.key_table.specs.Atoms
+pub use Rattle.key_table.specs.Payments
+pub use Rattle.euclid_ast.specs.Meaning
+pub use Rattle.dir_typing.specs.Typed
+pub use Rattle.vir_lowering.specs.Valued
+pub use Rattle.connector_settings.specs.GraphOf
+pub use Rattle.rule_problem.specs.Distinct
+pub use Rattle.rule_problem.specs.Problems
+pub mod Aims
+pub mod Numbered
+pub mod Paths
+pub mod Reaching
+pub mod Shared
+pub mod Taken
+pub mod Targets
