@@ -1,4 +1,4 @@
--- What the meaning of the statuses implies: completeness, and what a missing file gives.
+-- What the meaning of the statuses implies: completeness, what a missing file gives, and what it means that a command is done.
 use Rattle.std.proofs.Common.{◌≡◌, Option, Some, None, Result, ◌⊎◌, inl, inr, refl}
 use Rattle.shelf_io.specs.Seen.{Name, Files, ShelfSeen, SinkSeen, FailedOn, WhereTold}
 use Rattle.euclidc_program.specs.declared.answer.Answer.{Answer}
@@ -8,9 +8,10 @@ use Rattle.euclidc_program.specs.declared.status.Verdict.TheVariants as verdict
 use Rattle.euclidc_program.specs.declared.status.Status.{Status}
 use Rattle.euclidc_program.specs.declared.status.Status.TheVariants as status
 use Rattle.euclidc_program.specs.Stages.{Among, Fault, Concludes}
+use Rattle.euclidc_program.specs.Check.{AcceptedLaw}
 use Rattle.euclidc_program.specs.Commands.{Command, MayAnswer, asked, names, IsGood, IsMissing}
-use Rattle.euclidc_program.specs.Top.{WritesWhole, known_to, Does, IsCalm, Completes, Misses, Finishes}
-use Rattle.euclidc_program.proofs.CommandLemmas.{asked-named, good-done, good-held, missing-none}
+use Rattle.euclidc_program.specs.Top.{WritesWhole, known_to, Does, IsCalm, Completes, Misses, IsAssured, Accepts, Finishes}
+use Rattle.euclidc_program.proofs.CommandLemmas.{asked-named, good-done, good-held, missing-none, done-assures}
 use Rattle.euclidc_program.proofs.Meetings.{does}
 use Rattle.euclidc_program.proofs.Told.{told_all, told_map}
 
@@ -61,3 +62,17 @@ does_misses command s s' k k' status.WriteFault does = told_map (known_to comman
 pub misses : (command : Command) (s s' : ShelfSeen) (k k' : SinkSeen) (outcome : Result Answer Halt) (r : Status)
     → Concludes (MayAnswer command) (asked command) (names command) s s' outcome → Finishes outcome k k' r → Misses (Some command) s r
 misses command s s' k k' outcome r gives done = does_misses command s s' k k' r (does command s s' k k' outcome r gives done)
+
+does_accepts : AcceptedLaw → (command : Command) (s s' : ShelfSeen) (k k' : SinkSeen) (r : Status) → Does command s s' k k' r → IsAssured command s r
+does_accepts law command s s' k k' status.Done does = told_map (known_to command s) _ _ (λ files put. done-assures law command files put.0 put.1) does
+does_accepts law command s s' k k' status.No does = tt
+does_accepts law command s s' k k' status.Usage does = tt
+does_accepts law command s s' k k' status.Refused does = tt
+does_accepts law command s s' k k' status.TooLong does = tt
+does_accepts law command s s' k k' status.ReadFault does = tt
+does_accepts law command s s' k k' status.WriteFault does = tt
+does_accepts law command s s' k k' status.NoMemory does = tt
+
+pub accepts : AcceptedLaw → (command : Command) (s s' : ShelfSeen) (k k' : SinkSeen) (outcome : Result Answer Halt) (r : Status)
+    → Concludes (MayAnswer command) (asked command) (names command) s s' outcome → Finishes outcome k k' r → Accepts (Some command) s r
+accepts law command s s' k k' outcome r gives done = does_accepts law command s s' k k' r (does command s s' k k' outcome r gives done)

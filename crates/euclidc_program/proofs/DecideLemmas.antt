@@ -21,12 +21,12 @@ use Rattle.euclidc_program.proofs.RunLemmas.{LacksMissing, ending-lacks, bind-la
 all_read : Typed → Entries → Run (Typed × Entries)
 all_read program payment = ending (goes (program, payment))
 
-typed_file-lacks : (table : Table) (name : Name) (files : Files) → LacksMissing files (typed_file table name files)
+pub typed_file-lacks : (table : Table) (name : Name) (files : Files) → LacksMissing files (typed_file table name files)
 typed_file-lacks table name files =
     bind-lacks files (program_file name files) (λ program. ending (judged type_refusal (typed_of table program))) (file-lacks role.Program program_refusal program_of name files)
     (λ program. ending-lacks files (judged type_refusal (typed_of table program)))
 
-typed_file-asks : (names : List Name) (table : Table) (name : Name) (files : Files) → Among name names → AllAmong names (typed_file table name files).asked
+pub typed_file-asks : (names : List Name) (table : Table) (name : Name) (files : Files) → Among name names → AllAmong names (typed_file table name files).asked
 typed_file-asks names table name files h =
     bind-asks names (program_file name files) (λ program. ending (judged type_refusal (typed_of table program))) (file-asks names role.Program program_refusal program_of name files h) (λ program. none_among names)
 

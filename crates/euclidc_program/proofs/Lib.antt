@@ -1,3 +1,4 @@
+pub mod CheckLemmas
 pub mod CommandLemmas
 pub mod Completeness
 pub mod ConvertLemmas
@@ -10,3 +11,4 @@ pub mod Names
 pub mod Numbers
 pub mod RunLemmas
 pub mod Told
+pub mod Undone

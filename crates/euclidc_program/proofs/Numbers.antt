@@ -1,5 +1,6 @@
 -- Words that are numbers, by what `parse` answers.
-use Rattle.std.proofs.Common.{◌≡◌, ◌≢◌, ℕ, zero, suc, lit<, ◌<◌, ◌≤◌, ◌^◌, List, [], ◌∷◌, length, get_or, true, false, ◌&&◌, leb, bytes_eq, Result, Ok, Err, sym, ◌∙◌, subst, arith}
+use Rattle.std.proofs.Common.{◌≡◌, ◌≢◌, ℕ, zero, suc, lit<, ◌<◌, ◌≤◌, ◌^◌, List, [], ◌∷◌, length, get_or, true, false, ◌&&◌, leb, bytes_eq, Bool, Some, None, if◌then◌else◌, Result, Ok, Err, refl, ap, sym, ◌∙◌, subst, arith}
+use Rattle.std.specs.Bool.{then_some}
 use Rattle.std.specs.Fmt.{decimal}
 use Rattle.std.specs.Str.Parse.{AllDigits, digits_value, ParsesUnsigned}
 use Rattle.std.proofs.lemmas.Grind.{common_steps}
@@ -8,7 +9,7 @@ use Rattle.std.proofs.lemmas.Bool.Decides.{same_from_decides}
 use Rattle.std.proofs.lemmas.Slice.Eq.{bytes_eq-Decides}
 use Rattle.std.proofs.lemmas.Str.Parse.{IsNumeralModel, numerals_by_value, tells_digits, parse_plain}
 use Rattle.std.proofs.lemmas.Fmt.{decimal-digits_value, parse-decimal, decimal_nonempty, first_decimal, decimal_digit}
-use Rattle.euclidc_program.specs.Words.{is_number}
+use Rattle.euclidc_program.specs.Words.{is_number, number_in}
 use Rattle.euclidc_program.specs.Unpadded.{is_unpadded}
 
 own : IsNumeralModel (AllDigits 10) (digits_value 10)
@@ -77,3 +78,24 @@ number-err most word small parsed = sym (false_from_ne_true _ (λ is.
     let below : digits_value 10 word < 2 ^ 32 = omega (arith, le, small) in
     let e : r ≡ Ok (digits_value 10 word) = parse-decimal 32 (digits_value 10 word) word r below (fits64 _ most le small) p.0 parsed in
     cc e))
+
+number-same : (most : ℕ) (word : List ℕ) (n : ℕ) → most < 2 ^ 32 → Parsed word (Ok n) → is_number most word ≡ true → n ≡ digits_value 10 word
+number-same most word n small parsed is =
+    let r : Result ℕ ℕ = Ok n in
+    let p = number_says most word is in
+    let le : digits_value 10 word ≤ most = p.1 in
+    let below : digits_value 10 word < 2 ^ 32 = omega (arith, le, small) in
+    let e : r ≡ Ok (digits_value 10 word) = parse-decimal 32 (digits_value 10 word) word r below (fits64 _ most le small) p.0 parsed in
+    cc e
+
+found-same : (b : Bool) (n d : ℕ) → (b ≡ true → n ≡ d) → then_some b n ≡ (if b then Some d else None)
+found-same true n d same = ap Some (same refl)
+found-same false n d same = refl
+
+pub number-found : (most : ℕ) (word : List ℕ) (n : ℕ) → most < 2 ^ 32 → Parsed word (Ok n) → then_some (leb n most && is_unpadded word) n ≡ number_in most word
+number-found most word n small parsed =
+    subst (λ (b : Bool). then_some b n ≡ number_in most word) (sym (number-ok most word n small parsed)) (found-same (is_number most word) n (digits_value 10 word) (number-same most word n small parsed))
+
+pub number-none : (most : ℕ) (word : List ℕ) → most < 2 ^ 32 → Parsed word (Err 0) → None ≡ number_in most word
+number-none most word small parsed =
+    subst (λ (b : Bool). None ≡ (if b then Some (digits_value 10 word) else None)) (number-err most word small parsed) refl

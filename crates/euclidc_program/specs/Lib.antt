@@ -1,3 +1,5 @@
+pub mod CertificateFiles
+pub mod Check
 pub mod CommandViews
 pub mod Commands
 pub mod Convert
@@ -9,10 +11,13 @@ pub mod ProgramFiles
 pub mod Refusals
 pub mod Roles
 pub mod Runs
+pub mod SettingsFiles
 pub mod Stages
 pub mod Statuses
 pub mod TableFiles
+pub mod Targets
 pub mod TypedFiles
 pub mod Top
 pub mod Unpadded
+pub mod Verdicts
 pub mod Words

@@ -8,7 +8,7 @@ use Rattle.euclidc_program.specs.declared.status.Verdict.{Verdict}
 use Rattle.euclidc_program.specs.declared.status.Verdict.TheVariants as verdict
 use Rattle.euclidc_program.specs.declared.status.Status.{Status}
 use Rattle.euclidc_program.specs.declared.status.Status.TheVariants as status
-use Rattle.euclidc_program.specs.Commands.{Command, MayAnswer, asked, names, usage, IsGood, IsMissing}
+use Rattle.euclidc_program.specs.Commands.{Command, MayAnswer, asked, names, usage, IsGood, IsMissing, Assures}
 use Rattle.euclidc_program.specs.Stages.{Answering, Fault, Among, Stays, known_files}
 use Rattle.euclidc_program.specs.Statuses.{status_of}
 
@@ -73,6 +73,15 @@ Completes (Some command) shelf shelf' sink sink' s = WhereTold (known_to command
 abbrev pub Misses : Option Command → ShelfSeen → Status → Type 0
 Misses None shelf s = Unit {0}
 Misses (Some command) shelf s = WhereTold (known_to command shelf) (λ files. IsMissing command files → (s ≡ status.ReadFault) ⊎ (s ≡ status.NoMemory))
+
+-- Where a command is done, what that means of its files stands.
+abbrev pub IsAssured : Command → ShelfSeen → Status → Type 0
+IsAssured command shelf status.Done = WhereTold (known_to command shelf) (λ files. Assures command files)
+IsAssured command shelf _ = Unit {0}
+
+abbrev pub Accepts : Option Command → ShelfSeen → Status → Type 0
+Accepts None shelf s = Unit {0}
+Accepts (Some command) shelf s = IsAssured command shelf s
 
 -- One put of an answer: all of it, or a front of it and a fault.
 abbrev pub PutGives : Answer → SinkSeen → SinkSeen → Status → Type 0

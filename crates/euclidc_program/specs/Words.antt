@@ -1,5 +1,5 @@
 -- The forms of words that are commands.
-use Rattle.std.specs.Prelude.{ℕ, List, [], ◌∷◌, length, codes, decimal, bytes_eq, nat_lt, nat_le, Bool, true, ◌&&◌, ◌||◌, ◌==◌}
+use Rattle.std.specs.Prelude.{ℕ, List, [], ◌∷◌, length, codes, decimal, bytes_eq, nat_lt, nat_le, Bool, true, ◌&&◌, ◌||◌, ◌==◌, Option, Some, None, if◌then◌else◌}
 use Rattle.std.specs.List.{list_any}
 use Rattle.std.specs.Str.Parse.{digits_value}
 
@@ -20,6 +20,10 @@ is_name word = nat_lt 0 (length word)
 -- A canonical number is what is written in decimal for the number that its digits say.
 abbrev pub is_number : ℕ → Word → Bool
 is_number most word = bytes_eq word (decimal (digits_value 10 word)) && nat_le (digits_value 10 word) most
+
+-- the number that a word writes so, where it writes one up to this
+abbrev pub number_in : ℕ → Word → Option ℕ
+number_in most word = if is_number most word then Some (digits_value 10 word) else None
 
 -- the default, or the number of a rule
 abbrev pub is_target : Word → Bool

@@ -1,3 +1,5 @@
+use euclid_ast::Choice;
+
 /// Where the key table stands.
 #[derive(Clone, Copy, Drop)]
 pub enum TableSource<'a> {
@@ -19,6 +21,9 @@ pub enum Form {
 pub enum Command<'a> {
     /// The decision, by a key table, of the program in the first file on the payment in the second.
     Decide(TableSource<'a>, &'a str, &'a str),
+    /// Whether, by a key table, the certificate in the third file proves that no payment reaches the target of the program in
+    /// the first file under the settings in the second.
+    Check(TableSource<'a>, &'a str, &'a str, Choice, &'a str),
     /// The program in the file, in the form.
     Convert(Form, &'a str),
     /// A command that is not built yet.

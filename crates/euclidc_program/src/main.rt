@@ -2,6 +2,8 @@
 #![tactic(auto)]
 
 mod answer;
+mod certificate_file;
+mod check;
 mod command;
 mod convert;
 mod decide;
@@ -13,8 +15,10 @@ mod program_file;
 mod refusal;
 mod role;
 mod run;
+mod settings_file;
 mod status;
 mod table_file;
+mod target;
 #[cfg(test)]
 mod tests;
 mod top;

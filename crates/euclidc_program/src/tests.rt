@@ -14,7 +14,8 @@ use std::test::Fail;
 //     NAME TEXT        a file, where `^` is a line end, `!` a tab, `'` a carriage return, `$` a form feed, `?` the byte 0, and a
 //                      backtick a byte that no text has. PROGRAM is the program below,
 //                      `PROGRAM OLD -> NEW` that program with NEW for OLD, `IF COMPARISON` the one with this comparison in
-//                      place of its own, EMPTY a program without rules, and KEYS the keys below
+//                      place of its own, EMPTY a program without rules, KEYS the keys below, SETTINGS settings, and CERTIFICATE a
+//                      certificate
 //     NAME:N TEXT      a file with spaces behind the text, up to so many bytes
 //     ! N              the read with this number fails, counted from 1
 //     ~                the sink stops after each byte in turn
@@ -40,6 +41,10 @@ $ report - P S 00
 $ report - P S _
 $ check - P S 0 _
 $ check - P S 256 C
+$ check - P S 01 C
+$ check - P S _ C
+$ check _ P S 0 C
+$ check - P S 0 C more
 $ convert P xml
 $ convert _ json
 $ convert P Json
@@ -55,7 +60,6 @@ $ report - P S 65536
 $ report K P S 0
 $ prove - P S default 10
 $ prove - P S 255 65536
-$ check - P S 255 C
 $ sample 4294967295
 ! 1
 P PROGRAM
@@ -239,6 +243,260 @@ PAY [
 $ decide - P PAY
 P PROGRAM
 PAY:1048577 {}
+===
+0 accepted
+$ check - P S 1 C
+~
+P default: none^"big": none {^  amount > 100^}^"bigger": none {^  amount > 200^}^
+S SETTINGS
+C CERTIFICATE
+===
+1 rejected 1
+$ check - P S 1 C
+~
+P default: none^"big": none {^  amount > 100^}^"bigger": none {^  amount > 200^}^
+S SETTINGS
+C euclid certificate 1^atoms 1^amount - any gt:100^split 0^want 0^bar 0^end^
+===
+1 rejected 2
+$ check - P S 1 C
+P default: none^"big": none {^  amount > 100^}^"bigger": none {^  amount > 200^}^
+S SETTINGS
+C euclid certificate 1^atoms 1^amount - any gt:100^split 0^bar 0^end^
+===
+1 rejected 3
+$ check - P S 1 C
+P default: none^"big": none {^  amount > 100^}^"bigger": none {^  amount > 200^}^
+S SETTINGS
+C euclid certificate 1^atoms 1^amount - any gt:100^split 0^bar 0^want 0^goal^end^
+===
+1 rejected 1
+$ check - P S 0 C
+P default: none^"big": none {^  amount > 100^}^"bigger": none {^  amount > 200^}^
+S SETTINGS
+C CERTIFICATE
+===
+1 rejected 2
+$ check - P S default C
+P default: none^"big": none {^  amount > 100^}^"bigger": none {^  amount > 200^}^
+S SETTINGS
+C CERTIFICATE
+===
+0 accepted
+$ check - P S default C
+$ check - P S 0 C
+$ check - P S 1 C
+P default: none^"big": none {^  amount > 100^}^"bigger": none {^  amount > 200^}^
+S []
+C euclid certificate 1^atoms 0^goal^end^
+===
+0 accepted
+$ check - P S 0 C
+P default: none^"yen": none {^  currency = JPY^}^
+S SETTINGS
+C euclid certificate 1^atoms 1^currency - any v:JPY^split 0^goal^want 0^end^
+===
+1 rejected 1
+$ check - P S 0 C
+P default: none^"yen": none {^  currency = JPY^}^
+S SETTINGS
+C euclid certificate 1^atoms 1^currency - any v:JPY^split 0^want 0^goal^end^
+===
+0 accepted
+$ check - P S 1 C
+P {"defaultSelection":{"type":"none"},"rules":[{"name":"r","connectorSelection":{"type":"none"},"statements":[{"condition":[]}]},{"name":"late","connectorSelection":{"type":"none"},"statements":[{"condition":[{"lhs":"payment_method","comparison":"equal","value":{"type":"enum_variant","value":"wallet"}}]}]}]}
+S SETTINGS
+C euclid certificate 1^atoms 0^bar 0^end^
+===
+3 refused target 1 2
+$ check - P S 2 C
+~
+P default: none^"big": none {^  amount > 100^}^"bigger": none {^  amount > 200^}^
+S SETTINGS
+===
+3 refused target 1 255
+$ check - P S 255 C
+! 3
+P default: none^"big": none {^  amount > 100^}^"bigger": none {^  amount > 200^}^
+S SETTINGS
+C [
+===
+3 refused target 1 0
+$ check - P S 0 C
+P EMPTY
+S []
+C [
+===
+0 accepted
+$ check K P S default C
+K KEYS
+P EMPTY
+S []
+C euclid certificate 1^atoms 0^goal^end^
+===
+3 refused table 1 -
+$ check K P S 9 C
+K [
+P [
+S [
+C [
+===
+3 refused program text 6 0
+$ check - P S 9 C
+P [
+S [
+C [
+===
+3 refused program type 1 0 0
+$ check - P S 9 C
+P default: none^"r": none {^  colour = red^}^
+S [
+C [
+===
+3 refused settings 1 ""
+$ check - P S 9 C
+~
+P EMPTY
+S [
+C [
+===
+3 refused settings 3 ""
+$ check - P S 9 C
+P EMPTY
+S {}
+C [
+===
+3 refused settings 2 "/0/connector_name"
+$ check - P S 9 C
+P EMPTY
+S [{}]
+C [
+===
+3 refused settings 6 "/0/payment_methods_enabled/0/payment_method"
+$ check - P S default C
+P EMPTY
+S [{"connector_name":"c","payment_methods_enabled":[{"payment_method":"cash"}]}]
+C [
+===
+3 refused certificate 3 1
+$ check - P S default C
+~
+P EMPTY
+S []
+C [
+===
+3 refused certificate 3 7
+$ check - P S 1 C
+P default: none^"big": none {^  amount > 100^}^"bigger": none {^  amount > 200^}^
+S SETTINGS
+C euclid certificate 1^atoms 1^amount - any gt:100^split 0^bar 0^want 0^
+===
+3 refused certificate 6 1
+$ check - P S 1 C
+P default: none^"big": none {^  amount > 100^}^"bigger": none {^  amount > 200^}^
+S SETTINGS
+C euclid trace 1^atoms 1^amount - any gt:100^split 0^bar 0^want 0^end^
+===
+3 refused certificate 1 3
+$ check - P S 1 C
+P default: none^"big": none {^  amount > 100^}^"bigger": none {^  amount > 200^}^
+S SETTINGS
+C euclid certificate 1^atoms 1^amount - any gt:0100^split 0^bar 0^want 0^end^
+===
+3 refused certificate 2 3
+$ check - P S 1 C
+P default: none^"big": none {^  amount > 100^}^"bigger": none {^  amount > 200^}^
+S SETTINGS
+C euclid certificate 1^atoms 1^colour - any gt:100^split 0^bar 0^want 0^end^
+===
+3 refused certificate 2 3
+$ check - P S 1 C
+P default: none^"big": none {^  amount > 100^}^"bigger": none {^  amount > 200^}^
+S SETTINGS
+C euclid certificate 1^atoms 1^amount - any v:USD^split 0^bar 0^want 0^end^
+===
+3 refused certificate 5 2
+$ check - P S 1 C
+P default: none^"big": none {^  amount > 100^}^"bigger": none {^  amount > 200^}^
+S SETTINGS
+C euclid certificate 1^atoms 65537^amount - any gt:100^split 0^bar 0^want 0^end^
+===
+3 refused certificate 4 8
+$ check - P S 1 C
+P default: none^"big": none {^  amount > 100^}^"bigger": none {^  amount > 200^}^
+S SETTINGS
+C euclid certificate 1^atoms 1^amount - any gt:100^split 0^bar 0^want 0^end^x
+===
+5
+$ check K P S default C
+P EMPTY
+S []
+C [
+===
+5
+$ check - P S default C
+S []
+C [
+===
+5
+$ check - P S 9 C
+P EMPTY
+C [
+===
+5
+$ check - P S default C
+P EMPTY
+S []
+===
+5
+$ check K P S default C
+! 1
+K KEYS
+P EMPTY
+S []
+C [
+===
+5
+$ check K P S default C
+! 2
+K KEYS
+P EMPTY
+S []
+C [
+===
+5
+$ check K P S default C
+! 3
+K KEYS
+P EMPTY
+S []
+C [
+===
+5
+$ check K P S default C
+! 4
+K KEYS
+P EMPTY
+S []
+C [
+===
+4 toolong settings
+$ check - P S 9 C
+P EMPTY
+S:1048577 []
+C [
+===
+3 refused certificate 3 1
+$ check - P S default C
+P EMPTY
+S:1048576 []
+C [
+===
+3 refused certificate 4 5
+$ check - P S default C
+P EMPTY
+S []
+C:1048577 euclid certificate 1^atoms 0^goal^end^
 "#;
 
 // Decisions. A line begins with the number of its status and with what is written, as above. Behind the arrows stand the key
@@ -480,6 +738,8 @@ const DECISIONS: &str =
 3 refused program text 6 7 <- - <- default <- {}
 3 refused program text 6 8 <- - <- default: <- {}
 3 refused program text 6 8 <- - <- default none <- {}
+3 refused program text 1 2 <- - <- a ; <- {}
+3 refused program text 2 0 <- - <- "a <- {}
 3 refused program text 6 16 <- - <- default : none r <- {}
 3 refused program text 6 16 <- - <- default: none r: <- {}
 3 refused program text 6 21 <- - <- default: none r: none <- {}
@@ -893,6 +1153,9 @@ const CONVERSIONS: &str =
 0 = default: [""]^"r": ["" @ ""] {^}^ <- text <- {"defaultSelection":{"data":[{"connector":"","merchant_connector_id":null}],"type":"priority"},"metadata":{},"rules":[{"connectorSelection":{"data":[{"connector":"","merchant_connector_id":""}],"type":"priority"},"name":"r","statements":[]}]}
 0 = {"defaultSelection":{"data":[],"type":"volume_split"},"metadata":{},"rules":[]}^ <- json <- default: split []^
 0 = default: split []^ <- text <- {"defaultSelection":{"data":[],"type":"volume_split"},"metadata":{},"rules":[]}
+0 = {"defaultSelection":{"type":"none"},"metadata":{},"rules":[{"connectorSelection":{"type":"none"},"name":"a\tb","statements":[]}]}^ <- json <- default: none^"a!b": none {^}^
+0 = default: none^"a!b": none {^}^ <- text <- {"defaultSelection":{"type":"none"},"metadata":{},"rules":[{"connectorSelection":{"type":"none"},"name":"a\tb","statements":[]}]}
+0 = {"defaultSelection":{"type":"none"},"metadata":{},"rules":[{"connectorSelection":{"type":"none"},"name":"r","statements":[|31*{"condition":[{"comparison":"equal","lhs":"amount","metadata":{},"value":{"type":"number","value":1}}],"nested":[|{"condition":[{"comparison":"equal","lhs":"amount","metadata":{},"value":{"type":"number","value":1}}],"nested":null}|31*]}|]}]}^ <- json <- default: none r: none { |31*amount = 1 { |amount = 1 |31*} |}
 0 = default: none^"r": none {^  amount = 7^}^ <- text <- default:none^^r!:none{amount=007}'^
 0 = {"defaultSelection":{"type":"none"},"metadata":{},"rules":[{"connectorSelection":{"type":"none"},"name":"r","statements":[{"condition":[{"comparison":"equal","lhs":"amount","metadata":{},"value":{"type":"number","value":0}}],"nested":null}]}]}^ <- json <- default:none r:none{amount=-0}
 0 = default: none^ <- text <- {"type":"advanced","data":{"defaultSelection":{"type":"none"},"metadata":{},"rules":[]}}
@@ -980,6 +1243,13 @@ const COMPARISON: &str =
 const KEYS: &str =
     r#"key = [{ name = "payment_method", kind = "enum", variants = ["card", "wallet"] }, { name = "payment_method_type", kind = "enum", variants = ["credit", "debit"] }, { name = "currency", kind = "enum", variants = ["USD", "EUR", "NOK"] }, { name = "amount", kind = "number", min = 0 }, { name = "age", kind = "number", min = 10, max = 20 }, { name = "card_bin", kind = "text" }, { name = "label", kind = "text" }, { name = "metadata", kind = "metadata" }, { name = "tip", kind = "number", min = 0 }]"#;
 
+const SETTINGS: &str =
+    r#"[{"connector_name":"stripe","merchant_connector_id":"mca_1","disabled":false,"payment_methods_enabled":[{"payment_method":"card","payment_method_types":[{"payment_method_type":"credit","card_networks":["Visa","Mastercard"],"accepted_currencies":{"type":"enable_only","list":["USD","EUR"]},"accepted_countries":null,"minimum_amount":100,"maximum_amount":1000000,"recurring_enabled":true}]}]}]"#;
+
+// That no amount above 200 is not above 100.
+const CERTIFICATE: &str =
+    "euclid certificate 1^atoms 1^amount - any gt:100^split 0^bar 0^want 0^end^";
+
 const CARDS: &str =
     "rule 0 \"cards\"\n{\"data\":[{\"connector\":\"adyen\",\"merchant_connector_id\":null}],\"type\":\"priority\"}\n";
 
@@ -1007,6 +1277,8 @@ fn file_of(alloc: Global, text: &str) -> Result<String, AllocError> {
         "PROGRAM" => PROGRAM,
         "EMPTY" => EMPTY,
         "KEYS" => KEYS,
+        "SETTINGS" => SETTINGS,
+        "CERTIFICATE" => CERTIFICATE,
         text => text,
     };
     String::from_str(alloc, text)
@@ -1105,7 +1377,8 @@ fn text_of(rt: &impl AllocGlobal, line: &str) -> Result<String, Fail> {
         "USAGE" => USAGE,
         "" => "",
         line if line.starts_with("= ") => {
-            return Ok(line[2..].replace(rt.alloc(), "^", "\n")?);
+            let text = line[2..].replace(rt.alloc(), "^", "\n")?;
+            return Ok(text.replace(rt.alloc(), "!", "\t")?);
         }
         line if line.starts_with('{') => {
             return Ok(format!(in rt.alloc(); "default\n{line}\n")?);

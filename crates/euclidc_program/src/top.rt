@@ -3,9 +3,10 @@ ghost use Rattle.euclidc_program.specs.declared.status.Verdict.TheVariants.{Refu
 ghost use Rattle.euclidc_program.specs.Commands.{MayAnswer, asked, names};
 ghost use Rattle.euclidc_program.specs.CommandViews.{command_in, command_view};
 ghost use Rattle.euclidc_program.specs.Stages.{Concludes, HaltsWith};
-ghost use Rattle.euclidc_program.specs.Top.{Finishes, PutGives, Meets, Keeps, LeavesShelf, Completes, Misses};
+ghost use Rattle.euclidc_program.specs.Top.{Finishes, PutGives, Meets, Keeps, LeavesShelf, Completes, Misses, Accepts};
 
 use crate::answer::{Answer, Halt};
+use crate::check::{accepted_law, run_check};
 use crate::command::Command;
 use crate::convert::run_convert;
 use crate::decide::run_decide;
@@ -36,7 +37,11 @@ pub fn euclidc<F: Shelf, K: Sink>(
     // When it succeeds, and what a missing file gives.
     ensures completes { Completes (command_in words.now) (F.seen shelf.old) (F.seen shelf.new) (K.seen out.old) (K.seen out.new) result }
     ensures misses { Misses (command_in words.now) (F.seen shelf.old) result }
+
+    // What an accepted certificate means.
+    ensures accepts { Accepts (command_in words.now) (F.seen shelf.old) result }
 {
+    accepted_law();
     let Some(command) = command(words) else {
         return match out.put(USAGE) {
             Ok(()) => Status::Usage,
@@ -56,6 +61,15 @@ fn outcome<F: Shelf>(alloc: Global, shelf: &mut F, command: Command<'_>) -> Resu
         Command::Decide(source, program_name, payment_name) => {
             run_decide(alloc, shelf, source, program_name, payment_name)
         }
+        Command::Check(source, program_name, settings_name, target, certificate_name) => run_check(
+            alloc,
+            shelf,
+            source,
+            program_name,
+            settings_name,
+            target,
+            certificate_name,
+        ),
         Command::Convert(form, program_name) => run_convert(alloc, shelf, form, program_name),
         Command::Unbuilt => Err(unbuilt_command(alloc)),
     }

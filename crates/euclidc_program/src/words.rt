@@ -1,10 +1,12 @@
-ghost use Rattle.std.specs.Prelude.{◌≡◌, [], ◌∷◌, if◌then◌else◌, Some, None, option_map};
+ghost use Rattle.std.specs.Prelude.{◌≡◌, [], ◌∷◌, codes, nat_le, ◌&&◌, if◌then◌else◌, Some, None, option_map};
 ghost use Rattle.euclidc_program.specs.Commands.{command_of, source_of, Unbuilt};
 ghost use Rattle.euclidc_program.specs.CommandViews.{command_in, command_view, source_view};
-ghost use Rattle.euclidc_program.specs.Words.{all_accept, report_form, prove_form, check_form, sample_form, is_number, is_target};
+ghost use Rattle.euclidc_program.specs.Words.{all_accept, report_form, prove_form, sample_form, number_in, is_number, is_target};
+ghost use Rattle.euclidc_program.specs.Targets.{target_of};
 ghost use Rattle.euclidc_program.specs.Unpadded.{is_unpadded};
 
 use crate::command::{Command, Form, TableSource};
+use euclid_ast::Choice;
 
 const MOST_SPLITS: u32 = 65_536;
 
@@ -26,10 +28,9 @@ pub fn command(words: &[String]) -> Option<Command<'_>>
         [verb, table_word, program_name, settings_name, budget] => {
             unbuilt(is_report(verb, table_word, program_name, settings_name, budget))
         }
-        [verb, table_word, program_name, settings_name, target, last] => unbuilt(
-            is_prove(verb, table_word, program_name, settings_name, target, last)
-                || is_check(verb, table_word, program_name, settings_name, target, last),
-        ),
+        [verb, table_word, program_name, settings_name, target, last] => {
+            target_command(verb, table_word, program_name, settings_name, target, last)
+        }
         _ => None,
     }
 }
@@ -50,6 +51,56 @@ fn decide_command<'a>(
         return None;
     }
     Some(Command::Decide(source(table_word), program_name, payment_name))
+}
+
+// The commands that have a target.
+fn target_command<'a>(
+    verb: &str,
+    table_word: &'a str,
+    program_name: &'a str,
+    settings_name: &'a str,
+    target_word: &str,
+    last: &'a str,
+) -> Option<Command<'a>>
+    ensures { option_map command_view result ≡ command_of (verb.now ∷ table_word.now ∷ program_name.now ∷ settings_name.now ∷ target_word.now ∷ last.now ∷ []) }
+{
+    if verb == "check" {
+        return check_command(table_word, program_name, settings_name, target_word, last);
+    }
+    unbuilt(is_prove(
+        verb,
+        table_word,
+        program_name,
+        settings_name,
+        target_word,
+        last,
+    ))
+}
+
+fn check_command<'a>(
+    table_word: &'a str,
+    program_name: &'a str,
+    settings_name: &'a str,
+    target_word: &str,
+    certificate_name: &'a str,
+) -> Option<Command<'a>>
+    ensures { option_map command_view result ≡ command_of (codes "check" ∷ table_word.now ∷ program_name.now ∷ settings_name.now ∷ target_word.now ∷ certificate_name.now ∷ []) }
+{
+    if table_word.is_empty()
+        || program_name.is_empty()
+        || settings_name.is_empty()
+        || certificate_name.is_empty()
+    {
+        return None;
+    }
+    let target = target(target_word)?;
+    Some(Command::Check(
+        source(table_word),
+        program_name,
+        settings_name,
+        target,
+        certificate_name,
+    ))
 }
 
 fn convert_command<'a>(verb: &str, program_name: &'a str, form: &str) -> Option<Command<'a>>
@@ -123,24 +174,6 @@ fn is_prove(
         && is_number(budget, MOST_SPLITS)
 }
 
-fn is_check(
-    verb: &str,
-    table_word: &str,
-    program_name: &str,
-    settings_name: &str,
-    target: &str,
-    certificate_name: &str,
-) -> bool
-    ensures { result ≡ all_accept check_form (verb.now ∷ table_word.now ∷ program_name.now ∷ settings_name.now ∷ target.now ∷ certificate_name.now ∷ []) }
-{
-    verb == "check"
-        && !table_word.is_empty()
-        && !program_name.is_empty()
-        && !settings_name.is_empty()
-        && is_target(target)
-        && !certificate_name.is_empty()
-}
-
 fn is_sample(verb: &str, seed: &str) -> bool
     ensures { result ≡ all_accept sample_form (verb.now ∷ seed.now ∷ []) }
 {
@@ -151,17 +184,41 @@ fn is_sample(verb: &str, seed: &str) -> bool
 fn is_target(word: &str) -> bool
     ensures { result ≡ is_target word.now }
 {
-    word == "default" || is_number(word, MOST_RULE)
+    target(word).is_some()
 }
 
-// Whether a word is a number up to this one, in decimal without a sign or a leading zero, `0` aside.
+// The target that a word names.
+fn target(word: &str) -> Option<Choice>
+    ensures { result ≡ (if is_target word.now then Some (target_of word.now) else None) }
+{
+    if word == "default" {
+        return Some(Choice::Default);
+    }
+    Some(Choice::Rule(number(word, MOST_RULE)?))
+}
+
+// Whether a word is a number up to this one.
 fn is_number(word: &str, most: u32) -> bool
     ensures { result ≡ is_number most word.now }
 {
+    number(word, most).is_some()
+}
+
+// The number up to this one that a word writes in decimal without a sign or a leading zero, `0` aside.
+fn number(word: &str, most: u32) -> Option<u32>
+    ensures { result ≡ number_in most word.now }
+{
     match word.parse::<u32>() {
-        Ok(number) => number <= most && is_unpadded(word),
-        Err(_) => false,
+        Ok(number) => is_plain(number, word, most).then_some(number),
+        Err(_) => None,
     }
+}
+
+// Whether a number is at most this, and its word has no plus sign and no leading zero, `0` aside.
+fn is_plain(number: u32, word: &str, most: u32) -> bool
+    ensures { result ≡ (nat_le number most && is_unpadded word.now) }
+{
+    number <= most && is_unpadded(word)
 }
 
 // Whether a number is written without a plus sign and without a leading zero, `0` aside.

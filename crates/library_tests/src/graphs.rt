@@ -176,8 +176,8 @@ fn refusal(alloc: Global, stop: Stop<BuildError>) -> Option<String> {
     }
 }
 
-// What the builder answers to a call.
-fn answer(alloc: Global, builder: &mut Builder, call: &str) -> Option<String> {
+/// What the builder answers to a call: the number of a node, `ok` of an edge, or a code after a `!`.
+pub(crate) fn answer(alloc: Global, builder: &mut Builder, call: &str) -> Option<String> {
     if let Some(words) = call.strip_prefix("edge ") {
         return match add_edge(builder, words)? {
             Ok(()) => String::from_str(alloc, "ok").ok(),

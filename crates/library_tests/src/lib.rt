@@ -7,7 +7,11 @@ mod atoms;
 #[cfg(test)]
 mod cases;
 #[cfg(test)]
+mod certificates;
+#[cfg(test)]
 mod graphs;
+#[cfg(test)]
+mod option_sets;
 #[cfg(test)]
 mod payment_files;
 #[cfg(test)]

@@ -1,8 +1,8 @@
 use Rattle.std.proofs.Common.{Option, subst}
 use Rattle.euclidc_program.specs.Commands.{Command}
-use Rattle.euclidc_program.specs.Top.{Meets, LeavesShelf, Completes, Misses}
+use Rattle.euclidc_program.specs.Top.{Meets, LeavesShelf, Completes, Misses, Accepts}
 use Rattle.euclidc_program.proofs.Meetings.{does, keeps, leaves_shelf}
-use Rattle.euclidc_program.proofs.Completeness.{completes, misses}
+use Rattle.euclidc_program.proofs.Completeness.{completes, misses, accepts}
 use Rattle.euclidc_program.proofs.top.euclidc.Goals as goal
 
 pub returns-clause-means : goal.returns-clause-means
@@ -27,3 +27,8 @@ pub returns-clause-misses : goal.returns-clause-misses
 returns-clause-misses g c =
     let P : Option Command → Type 0 = λ o. Misses o (g.F.Shelf.seen c.args.shelf.now) c.finish.result in
     subst P c.in-Some.ensures (misses _ _ _ _ _ _ _ c.outcome-outcome.ensures c.finish.ensures)
+
+pub returns-clause-accepts : goal.returns-clause-accepts
+returns-clause-accepts g c =
+    let P : Option Command → Type 0 = λ o. Accepts o (g.F.Shelf.seen c.args.shelf.now) c.finish.result in
+    subst P c.in-Some.ensures (accepts c.accepted_law.ensures _ _ _ _ _ _ _ c.outcome-outcome.ensures c.finish.ensures)
