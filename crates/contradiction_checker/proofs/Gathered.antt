@@ -24,7 +24,7 @@ in_chain law count slot None on = cc
 in_chain law count slot (Some atom) on = eq-eqb (chain_of count atom.slot) (chain_of count slot) (ap (chain_of count) (sym (law slot atom.slot (is-equal (slot_cmp slot atom.slot) on))))
 
 -- what is not in the chain of a slot is not on the slot
-not_on : SameSlotLaw → (atoms : List Atom) (count : ℕ) (slot : Slot) (a : Assumed) → is_in atoms count (chain_of count slot) a.atom ≡ false → is_on atoms slot a ≡ false
+pub not_on : SameSlotLaw → (atoms : List Atom) (count : ℕ) (slot : Slot) (a : Assumed) → is_in atoms count (chain_of count slot) a.atom ≡ false → is_on atoms slot a ≡ false
 not_on law atoms count slot a other = false_from_ne_true (is_on atoms slot a) (λ on. both_ways (is_in atoms count (chain_of count slot) a.atom) other (in_chain law count slot (slice_get atoms a.atom) on))
 
 none_on : SameSlotLaw → (atoms : List Atom) (count : ℕ) (slot : Slot) (assumed : List Assumed) (p : ℕ) → list_any (is_in atoms count (chain_of count slot)) (take p (numbers_of assumed)) ≡ false → filter (is_on atoms slot) (take p assumed) ≡ []

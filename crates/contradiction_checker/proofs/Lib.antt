@@ -2,6 +2,7 @@ pub mod Agreement
 pub mod Assumed
 pub mod Deciding
 pub mod Exact
+pub mod Findings
 pub mod Gathered
 pub mod LastOnes
 pub mod Linked
@@ -9,6 +10,7 @@ pub mod NodeValues
 pub mod NumberLaw
 pub mod Numbers
 pub mod OptionLaw
+pub mod Passing
 pub mod ReasonLaw
 pub mod Rooms
 pub mod Sides

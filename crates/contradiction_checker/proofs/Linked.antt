@@ -56,7 +56,7 @@ none_more p (suc h) (x ∷ xs) y fails none = none_more p h xs y fails none
 pub ends_past : (atoms : List Atom) (count chain : ℕ) (numbers : List ℕ) (end : ℕ) → length numbers ≤ end → EndsBy atoms count chain numbers end
 ends_past atoms count chain numbers end past = ap (list_any (is_in atoms count chain)) (drop_past end numbers past)
 
-eqb-other : (x y : ℕ) → x ≢ y → (x == y) ≡ false
+pub eqb-other : (x y : ℕ) → x ≢ y → (x == y) ≡ false
 eqb-other x y other = false_from_ne_true (x == y) (λ is. other (eqb-true x y is))
 
 -- where there is no assumption, all are linked, whatever the heads
@@ -146,6 +146,21 @@ number_at (x ∷ assumed) (suc n) a within = number_at assumed n a (omega arith)
 pub numbers_count : (assumed : List Assumed) → length (numbers_of assumed) ≡ length assumed
 numbers_count [] = refl
 numbers_count (a ∷ assumed) = ap (λ (n : ℕ). suc n) (numbers_count assumed)
+
+numbers_more : (assumed : List Assumed) (a : Assumed) → numbers_of (assumed ++ a ∷ []) ≡ numbers_of assumed ++ a.atom ∷ []
+numbers_more [] a = refl
+numbers_more (b ∷ assumed) a = ap (λ (l : List ℕ). b.atom ∷ l) (numbers_more assumed a)
+
+-- An assumption comes, and its chain ends with it.
+pub pushed_linked : (atoms : List Atom) (count : ℕ) (assumed : List Assumed) (before heads : List ℕ) (x b chain next : ℕ) (truth : Bool) → chain ≡ chain_at atoms count x → next ≡ length assumed + 1 → EndsBy atoms count chain (numbers_of assumed) b → AreLinked atoms count (numbers_of assumed) before heads → AreLinked atoms count (numbers_of (assumed ++ with_truth x truth ∷ [])) (before ++ b ∷ []) (set heads chain next)
+pushed_linked atoms count assumed before heads x b chain next truth in_chain is_next ends l =
+    let P : ℕ → Type 0 = λ c. EndsBy atoms count c (numbers_of assumed) b in
+    let pushed = linked_push atoms count (numbers_of assumed) before heads x b (subst P in_chain ends) l in
+    let Q : List ℕ → Type 0 = λ ns. AreLinked atoms count ns (before ++ b ∷ []) (set heads chain next) in
+    let R : ℕ → Type 0 = λ c. AreLinked atoms count (numbers_of assumed ++ x ∷ []) (before ++ b ∷ []) (set heads c next) in
+    let S : ℕ → Type 0 = λ n. AreLinked atoms count (numbers_of assumed ++ x ∷ []) (before ++ b ∷ []) (set heads (chain_at atoms count x) n) in
+    let at : length (numbers_of assumed) + 1 ≡ next = omega (arith, is_next, numbers_count assumed) in
+    subst Q (sym (numbers_more assumed (with_truth x truth))) (subst R (sym in_chain) (subst S at pushed))
 
 -- The last assumption is dropped, and its chain ends by the place that it had.
 pub popped_linked : (atoms : List Atom) (count : ℕ) (assumed : List Assumed) (before heads : List ℕ) (n : ℕ) (a : Assumed) (b d : ℕ) → length assumed ≡ n + 1 → a ≡ get_or assumed n a → b ≡ get_or before n d → AreLinked atoms count (numbers_of assumed) before heads → AreLinked atoms count (numbers_of (take n assumed)) (take n before) (set heads (chain_at atoms count a.atom) b)

@@ -8,9 +8,11 @@ pub mod Assumed
 pub mod Candidates
 pub mod Chains
 pub mod Decisions
+pub mod Findings
 pub mod Judging
 pub mod Laws
 pub mod Representatives
+pub mod Rooms
 pub mod Trails
 pub mod Tries
 pub mod Turning

@@ -3,8 +3,10 @@
 
 mod candidate;
 mod chain;
+mod finding;
 mod laws;
 mod nodes;
+mod notes;
 mod options;
 mod premises;
 mod reasons;

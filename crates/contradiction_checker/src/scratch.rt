@@ -1,32 +1,33 @@
 ghost use Rattle.std.specs.Prelude.{◌≡◌, IfOk};
 
-use crate::options::Assumed;
+use crate::notes::Notes;
 use crate::trail::Trail;
-use key_table::{NoMemory, Verdict3};
+use key_table::NoMemory;
 use std::alloc::Global;
 use std::marker::Model;
 
-/// Room for the work of checks: for so many atoms and so many items of a certificate, and so many nodes of a graph.
+/// Room for the work of checks: for so many atoms and so many items of a certificate, and so many nodes of a graph. As many
+/// atoms of the problem are not decided anew at each item.
 #[derive(Drop)]
 pub struct Scratch {
     pub(crate) trail: Trail,
-    pub(crate) mine: Vec<Assumed>,
-    pub(crate) verdicts: Vec<Verdict3>,
+    pub(crate) notes: Notes,
     atoms: u32,
     items: u32,
     nodes: u32,
 }
 
 impl Model for Scratch {
-    ghost use Rattle.std.specs.Prelude.{ℕ, ◌≤◌, vec_capacity};
+    ghost use Rattle.std.specs.Prelude.{ℕ};
 
     ghost Value = { ℕ × ℕ × ℕ };
 
     ghost use Rattle.contradiction_checker.specs.Trails.{HasRoom};
+    ghost use Rattle.contradiction_checker.specs.Rooms.{HasRoomFor};
 
     ghost view = { λ s. (s.atoms, s.items, s.nodes) };
 
-    ghost invariant = { λ s. HasRoom s.atoms s.items s.trail × (s.items ≤ vec_capacity s.mine) × (s.nodes ≤ vec_capacity s.verdicts) };
+    ghost invariant = { λ s. HasRoom s.atoms s.items s.trail × HasRoomFor s.items s.nodes s.notes };
 }
 
 impl Scratch {
@@ -35,12 +36,10 @@ impl Scratch {
         ensures { IfOk result (λ s. s ≡ (atoms, items, nodes)) }
     {
         let trail = Trail::for_sizes(alloc, atoms, items)?;
-        let mine = Vec::with_capacity(alloc, items as usize)?;
-        let verdicts = Vec::with_capacity(alloc, nodes as usize)?;
+        let notes = Notes::for_sizes(alloc, atoms, items, nodes)?;
         Ok(Scratch {
             trail,
-            mine,
-            verdicts,
+            notes,
             atoms,
             items,
             nodes,

@@ -1,12 +1,13 @@
-ghost use Rattle.std.specs.Prelude.{◌≡◌, ◌<◌, ◌≤◌, ◌+◌, ◌-◌, ◌++◌, ◌∷◌, List, [], length, take, slice_set, vec_len, vec_capacity, IfOk, true, false};
+ghost use Rattle.std.specs.Prelude.{◌≡◌, ◌<◌, ◌≤◌, ◌+◌, ◌-◌, ◌^◌, ◌++◌, ◌∷◌, List, [], length, take, replicate, slice_set, vec_len, vec_capacity, IfOk, true, false};
 ghost use Rattle.contradiction_checker.specs.declared.options.Assumed.{Assumed};
 ghost use Rattle.contradiction_checker.specs.Chains.{chain_at, EndsBy, numbers_of};
-ghost use Rattle.contradiction_checker.specs.Trails.{IsLinked, Widens, HasRoom};
+ghost use Rattle.contradiction_checker.specs.Findings.{has_stayed};
+ghost use Rattle.contradiction_checker.specs.Trails.{IsLinked, Passes, Widens, HasRoom};
 ghost use Rattle.contradiction_checker.specs.Turning.{Turns, with_truth};
 
 use crate::chain::chain_at;
 use crate::options::Assumed;
-use key_table::{Atom, NoMemory};
+use key_table::{Atom, NoMemory, slot_law};
 use std::alloc::Global;
 
 /// The assumptions of a walk, the outermost first, in chains, so that those on one slot are found without going over all.
@@ -18,7 +19,11 @@ pub(crate) struct Trail {
     pub(crate) before: Vec<usize>,
     // For each chain a place by which all of it end.
     pub(crate) heads: Vec<usize>,
+    // For each chain the time at which an assumption of it last came, went or turned.
+    pub(crate) changed: Vec<u32>,
     pub(crate) last_chain: u32,
+    // How often the assumptions changed.
+    pub(crate) time: u32,
 }
 
 /// Pushes an item where there is room for it.
@@ -34,26 +39,26 @@ pub(crate) fn keep<T: Copy>(kept: &mut Vec<T>, item: T)
     }
 }
 
-// Sets the head of a chain, where there is such a chain.
-fn set_head(heads: &mut Vec<usize>, chain: usize, head: usize)
-    ensures items { heads.new.items ≡ slice_set heads.old.items chain head }
-    ensures room { vec_capacity heads.old ≤ vec_capacity heads.new }
+/// Sets an item, where there is such a one.
+pub(crate) fn set_at<T: Copy>(list: &mut Vec<T>, place: usize, item: T)
+    ensures items { list.new.items ≡ slice_set list.old.items place item }
+    ensures room { vec_capacity list.old ≤ vec_capacity list.new }
 {
-    if chain < heads.len() {
-        heads[chain] = head;
+    if place < list.len() {
+        list[place] = item;
     }
 }
 
-// Leaves one head for each chain.
-fn clear_heads(heads: &mut Vec<usize>, last_chain: u32)
-    requires { last_chain < vec_capacity heads.old }
-    ensures { vec_capacity heads.old ≤ vec_capacity heads.new }
+/// Leaves so many of one item.
+pub(crate) fn fill<T: Copy>(list: &mut Vec<T>, count: usize, item: T)
+    requires { count ≤ vec_capacity list.old }
+    ensures items { list.new.items ≡ replicate count item }
+    ensures room { vec_capacity list.old ≤ vec_capacity list.new }
 {
-    heads.clear();
-    for _chain in 0..last_chain {
-        keep(heads, 0);
+    list.clear();
+    for _place in 0..count {
+        keep(list, item);
     }
-    keep(heads, 0);
 }
 
 fn make_false(assumed: &mut Assumed)
@@ -70,26 +75,43 @@ impl Trail {
         let assumed = Vec::with_capacity(alloc, items as usize)?;
         let before = Vec::with_capacity(alloc, items as usize)?;
         let heads = Vec::with_capacity(alloc, atoms as usize + 1)?;
+        let changed = Vec::with_capacity(alloc, atoms as usize + 1)?;
         Ok(Trail {
             assumed,
             before,
             heads,
+            changed,
             last_chain: 0,
+            time: 0,
         })
     }
 
     /// Drops all assumptions, and has chains for so many atoms.
     pub(crate) fn clear(&mut self, atoms: u32)
-        requires { atoms < vec_capacity self.old.heads }
+        requires heads { atoms < vec_capacity self.old.heads }
+        requires changed { atoms < vec_capacity self.old.changed }
         ensures items { self.new.assumed.items ≡ [] }
         ensures len { vec_len self.new.assumed ≡ 0 }
+        ensures time { self.new.time ≡ 0 }
         ensures linked { (atoms : List Atom) → IsLinked atoms self.new }
         ensures room { Widens self.old self.new }
     {
         self.assumed.clear();
         self.before.clear();
-        clear_heads(&mut self.heads, atoms);
+        fill(&mut self.heads, atoms as usize + 1, 0);
+        fill(&mut self.changed, atoms as usize + 1, 0);
         self.last_chain = atoms;
+        self.time = 0;
+    }
+
+    /// Whether the assumptions of a chain stayed as they are from before a time on.
+    pub(crate) fn has_stayed(&self, chain: usize, time: u32) -> bool
+        ensures { result ≡ has_stayed self.now.changed.items chain time }
+    {
+        match self.changed.get(chain) {
+            Some(at) => *at < time,
+            None => false,
+        }
     }
 
     /// A place by which all of a chain end.
@@ -124,16 +146,22 @@ impl Trail {
         requires linked { IsLinked atoms.now self.old }
         requires room { vec_len self.old.assumed < vec_capacity self.old.assumed }
         requires room_before { vec_len self.old.assumed < vec_capacity self.old.before }
+        requires time { self.old.time + 1 < 2 ^ 32 }
         ensures items { self.new.assumed.items ≡ self.old.assumed.items ++ with_truth atom true ∷ [] }
         ensures len { vec_len self.new.assumed ≡ vec_len self.old.assumed + 1 }
+        ensures time { self.new.time ≡ self.old.time + 1 }
+        ensures passes { Passes atoms.now self.old self.new }
         ensures linked { IsLinked atoms.now self.new }
         ensures room { Widens self.old self.new }
     {
+        slot_law();
         let chain = chain_at(atoms, self.last_chain, atom);
         let before = self.end(chain);
         keep(&mut self.assumed, Assumed { atom, truth: true });
         keep(&mut self.before, before);
-        set_head(&mut self.heads, chain, self.assumed.len());
+        set_at(&mut self.heads, chain, self.assumed.len());
+        set_at(&mut self.changed, chain, self.time);
+        self.time += 1;
     }
 
     // Drops the last assumption.
@@ -142,29 +170,40 @@ impl Trail {
         requires some { 0 < vec_len self.old.assumed }
         ensures items { self.new.assumed.items ≡ take (vec_len self.old.assumed - 1) self.old.assumed.items }
         ensures len { vec_len self.new.assumed + 1 ≡ vec_len self.old.assumed }
+        ensures time { self.new.time ≡ self.old.time }
+        ensures passes { Passes atoms.now self.old self.new }
         ensures linked { IsLinked atoms.now self.new }
         ensures room { Widens self.old self.new }
     {
+        slot_law();
         let last = self.assumed.len() - 1;
         let chain = chain_at(atoms, self.last_chain, self.assumed[last].atom);
         let before = self.before[last];
         self.assumed.truncate(last);
         self.before.truncate(last);
-        set_head(&mut self.heads, chain, before);
+        set_at(&mut self.heads, chain, before);
+        set_at(&mut self.changed, chain, self.time);
     }
 
     /// Goes on to the false side of the last split whose true side stands. False where there is none.
     pub(crate) fn turn(&mut self, atoms: &[Atom]) -> bool
-        requires { IsLinked atoms.now self.old }
+        requires linked { IsLinked atoms.now self.old }
+        requires time { self.old.time + 1 < 2 ^ 32 }
         ensures turned { Turns result self.old.assumed.items self.new.assumed.items }
         ensures len { vec_len self.new.assumed ≤ vec_len self.old.assumed }
+        ensures time { self.new.time ≤ self.old.time + 1 }
+        ensures passes { Passes atoms.now self.old self.new }
         ensures linked { IsLinked atoms.now self.new }
         ensures room { Widens self.old self.new }
     {
+        slot_law();
         while !self.assumed.is_empty() {
             let last = self.assumed.len() - 1;
             if self.assumed[last].truth {
+                let chain = chain_at(atoms, self.last_chain, self.assumed[last].atom);
                 make_false(&mut self.assumed[last]);
+                set_at(&mut self.changed, chain, self.time);
+                self.time += 1;
                 return true;
             }
             self.pop(atoms);

@@ -1,4 +1,4 @@
-ghost use Rattle.std.specs.Prelude.{◌≡◌, ◌<◌, ◌≤◌, ◌+◌, ◌^◌, length, vec_len, vec_capacity, IfOk, MatchOption, None, true, false};
+ghost use Rattle.std.specs.Prelude.{◌≡◌, ◌<◌, ◌≤◌, ◌+◌, ◌^◌, length, vec_len, slice_get, IfOk, MatchOption, None, true, false};
 ghost use Rattle.std.specs.List.{list_all};
 ghost use Rattle.key_table.specs.Atoms.{atom_fits};
 ghost use Rattle.key_table.specs.Payments.{Entries};
@@ -6,15 +6,17 @@ ghost use Rattle.rule_problem.specs.Problems.{problem_fits, sat};
 ghost use Rattle.rule_problem.specs.Proving.{split_of, Proves};
 ghost use Rattle.contradiction_checker.specs.Assumed.{context_of};
 ghost use Rattle.contradiction_checker.specs.Decisions.{reason_holds};
+ghost use Rattle.contradiction_checker.specs.Findings.{AreFound, test_at};
+ghost use Rattle.contradiction_checker.specs.Rooms.{HasRoomFor, Extends};
 ghost use Rattle.contradiction_checker.specs.Trails.{IsLinked, HasRoom, Widens};
 ghost use Rattle.contradiction_checker.specs.Judging.{Judges, SplitsOn, EndsAt};
 
-use crate::options::Assumed;
+use crate::notes::Notes;
 use crate::premises::Premises;
 use crate::scratch::Scratch;
 use crate::trail::Trail;
 use constraint_graph::agree_law;
-use key_table::{Atom, KeyTable, NoMemory, Verdict3, atom_law};
+use key_table::{Atom, KeyTable, NoMemory, atom_law};
 use rule_problem::{Certificate, Item, Problem, outcome_law, proof_law};
 use std::alloc::Global;
 
@@ -43,7 +45,9 @@ pub fn check(
     ensures exact { IfOk result (λ verdict. Proves table.now problem.now certificate.now → verdict ≡ Verdict.Accepted) }
     ensures sound { IfOk result (λ verdict. verdict ≡ Verdict.Accepted → (payment : Entries) → sat table.now problem.now payment ≡ false) }
 {
-    let atoms = certificate.atoms.as_slice().len() as u32;
+    let certified = certificate.atoms.as_slice().len() as u32;
+    let asked = problem.atoms.as_slice().len();
+    let atoms = u32::try_from(asked).unwrap_or(certified).max(certified);
     let items = certificate.items.as_slice().len() as u32;
     let mut scratch = Scratch::for_sizes(alloc, atoms, items, problem.graph.count())?;
     Ok(check_in(table, problem, certificate, &mut scratch))
@@ -75,8 +79,7 @@ pub fn check_in(
         certificate.atoms.as_slice(),
         certificate.items.as_slice(),
         &mut scratch.trail,
-        &mut scratch.mine,
-        &mut scratch.verdicts,
+        &mut scratch.notes,
     )
 }
 
@@ -87,30 +90,28 @@ fn walk(
     atoms: &[Atom],
     items: &[Item],
     trail: &mut Trail,
-    mine: &mut Vec<Assumed>,
-    verdicts: &mut Vec<Verdict3>,
+    notes: &mut Notes,
 ) -> Verdict
     requires problem { problem_fits table.now problem.now ≡ true }
     requires atoms { list_all (atom_fits table.now) atoms.now ≡ true }
     requires few { length items.now < 2 ^ 32 }
     requires few_atoms { length atoms.now < 2 ^ 32 }
     requires room { HasRoom (length atoms.now) (length items.now) trail.old }
-    requires room_on_slot { length items.now ≤ vec_capacity mine.old }
-    requires room_for_nodes { length problem.now.graph ≤ vec_capacity verdicts.old }
+    requires room_for_notes { HasRoomFor (length items.now) (length problem.now.graph) notes.old }
     ensures value { Judges table.now problem.now (record { atoms = atoms.now; items = items.now }) result }
     ensures room { Widens trail.old trail.new }
-    ensures room_on_slot { vec_capacity mine.old ≤ vec_capacity mine.new }
-    ensures room_for_nodes { vec_capacity verdicts.old ≤ vec_capacity verdicts.new }
+    ensures room_for_notes { Extends notes.old notes.new }
 {
     atom_law();
     agree_law();
     trail.clear(atoms.len() as u32);
+    notes.clear(problem.atoms.as_slice().len(), problem.graph.count());
     for (i, item) in items.iter().enumerate() {
         if let Some(atom) = atom_of_split(atoms, *item) {
             trail.push(atoms, atom);
             continue;
         }
-        if !reason_holds(table, problem, atoms, trail, *item, mine, verdicts) {
+        if !reason_holds(table, problem, atoms, trail, *item, notes) {
             return Verdict::Rejected(i as u32);
         }
         if !trail.turn(atoms) {
@@ -150,20 +151,21 @@ fn reason_holds(
     atoms: &[Atom],
     trail: &Trail,
     item: Item,
-    mine: &mut Vec<Assumed>,
-    verdicts: &mut Vec<Verdict3>,
+    notes: &mut Notes,
 ) -> bool
     requires linked { IsLinked atoms.now trail.now }
-    requires on_slot { vec_len trail.now.assumed ≤ vec_capacity mine.old }
-    requires nodes { length problem.now.graph ≤ vec_capacity verdicts.old }
+    requires room { HasRoomFor (vec_len trail.now.assumed) (length problem.now.graph) notes.old }
+    requires of_atoms { AreFound table.now atoms.now trail.now (slice_get problem.now.atoms) notes.old.of_atoms.items }
+    requires of_nodes { AreFound table.now atoms.now trail.now (test_at problem.now.graph) notes.old.of_nodes.items }
     ensures value { result ≡ reason_holds table.now problem.now atoms.now (context_of atoms.now trail.now.assumed.items) item }
-    ensures room { vec_capacity mine.old ≤ vec_capacity mine.new }
-    ensures room_for_nodes { vec_capacity verdicts.old ≤ vec_capacity verdicts.new }
+    ensures of_atoms { AreFound table.now atoms.now trail.now (slice_get problem.now.atoms) notes.new.of_atoms.items }
+    ensures of_nodes { AreFound table.now atoms.now trail.now (test_at problem.now.graph) notes.new.of_nodes.items }
+    ensures room { Extends notes.old notes.new }
 {
     let premises = Premises {
         table,
         atoms,
         trail,
     };
-    premises.reason_holds(problem, item, mine, verdicts)
+    premises.reason_holds(problem, item, notes)
 }

@@ -15,7 +15,9 @@ loop-node-preserved c =
     let is = ap of (sym c.deref.ensures.value) ∙ c.node_verdict-verdict.ensures.value in
     record {
       value = c.keep.ensures.items ∙ values_more three_valued says c.args.graph.now c.loop-node.node c.loop-node.verdicts.items v (omega arith) c.loop-node.invariant.value is;
+      found = c.node_verdict-verdict.ensures.found;
       few = omega arith;
       room = omega arith;
       room_for_nodes = omega arith;
+      room_for_findings = omega arith;
     }
