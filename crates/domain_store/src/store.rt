@@ -79,6 +79,14 @@ impl<'a> Store<'a> {
         })
     }
 
+    /// The problem that it was made for, which fits the table.
+    pub fn problem(&self) -> &Problem
+        ensures value { result.now ≡ self.now.problem }
+        ensures fits { problem_fits self.now.table self.now.problem ≡ true }
+    {
+        self.problem
+    }
+
     /// The assumptions in order: numbers of the problem's atoms with their truths. They leave some option to each slot.
     pub fn assumptions(&self) -> &[(u32, bool)]
         ensures value { result.now ≡ self.now.assumptions }
