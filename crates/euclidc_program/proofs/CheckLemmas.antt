@@ -29,7 +29,8 @@ use Rattle.euclidc_program.specs.declared.role.Role.TheVariants as role
 use Rattle.euclidc_program.specs.declared.status.Verdict.{Verdict}
 use Rattle.euclidc_program.specs.declared.status.Verdict.TheVariants as verdict
 use Rattle.euclidc_program.specs.Refusals.{refusal}
-use Rattle.euclidc_program.specs.Runs.{Run, End, goes, ends, lacks, ◌>>=◌, ending, judged}
+use Rattle.euclidc_program.specs.Inquiries.{IsProblemFor}
+use Rattle.euclidc_program.specs.Runs.{Run, goes, ends, ◌>>=◌, ending, judged}
 use Rattle.euclidc_program.specs.Stages.{Among, Ending}
 use Rattle.euclidc_program.specs.ProgramFiles.{program_refusal, program_of, program_file}
 use Rattle.euclidc_program.specs.TypedFiles.{type_refusal, typed_of, typed_file}
@@ -38,10 +39,10 @@ use Rattle.euclidc_program.specs.CertificateFiles.{certificate_refusal, certific
 use Rattle.euclidc_program.specs.TableFiles.{TableSource, known, under, table_refusal, table_in, table_names}
 use Rattle.euclidc_program.specs.Targets.{target_in}
 use Rattle.euclidc_program.specs.Verdicts.{Tells}
-use Rattle.euclidc_program.specs.Check.{Trial, trial, run_under, run_on, run_by, run, names, IsProblemFor, Says, Judged, Assures, AcceptedLaw}
+use Rattle.euclidc_program.specs.Check.{Trial, trial, run_under, run_on, run_by, run, names, Says, Judged, Assures, AcceptedLaw}
 use Rattle.euclidc_program.proofs.Names.{among-right, AllAmong, none_among}
 use Rattle.euclidc_program.proofs.RunLemmas.{LacksMissing, ending-lacks, bind-lacks, file-lacks, bind-asks, file-asks}
-use Rattle.euclidc_program.proofs.Undone.{NeverDone, bind-never, judged-never, if-never, file-never}
+use Rattle.euclidc_program.proofs.Undone.{NeverDone, done-went, bind-never, judged-never, if-never, file-never}
 use Rattle.euclidc_program.proofs.DecideLemmas.{typed_file-lacks, typed_file-asks, table_in-lacks, table_in-asks}
 
 all_read : Typed → Settings → decided.Choice → Certificate → Run Trial
@@ -141,26 +142,26 @@ tried table lowered program settings target certificate connectors problem check
     )
 
 -- a certificate that proves on each problem is accepted
-pub judged-done : (t : Trial) (text : List ℕ) (v : Verdict) → Judged t text v → ((connectors : ConnectorGraph) (problem : Problem) → IsProblemFor t connectors problem → Proves t.program.table problem t.certificate) → v ≡ verdict.Done
-judged-done t text v (connectors, problem, is, says) proves = says-done t.program.table problem t.certificate text v says (proves connectors problem is)
+pub judged-done : (t : Trial) (text : List ℕ) (v : Verdict) → Judged t text v → ((connectors : ConnectorGraph) (problem : Problem) → IsProblemFor t.inquiry t.target connectors problem → Proves t.inquiry.program.table problem t.certificate) → v ≡ verdict.Done
+judged-done t text v (connectors, problem, is, says) proves = says-done t.inquiry.program.table problem t.certificate text v says (proves connectors problem is)
 
 -- no payment reaches the target where a certificate is accepted
 pub accepted : ReachesLaw → ProofLaw → AcceptedLaw
 accepted reaches proof t text (connectors, problem, is, says) payment reached =
-    let satisfied = (reaches t.program t.settings connectors t.target problem is.typed is.within is.graph is.of_target payment).1 reached in
-    let unsatisfied = proof t.program.table problem t.certificate payment is.fits says.1 in
+    let satisfied = (reaches t.inquiry.program t.inquiry.settings connectors t.target problem is.typed is.within is.graph is.of_target payment).1 reached in
+    let unsatisfied = proof t.inquiry.program.table problem t.certificate payment is.fits says.1 in
     cc (satisfied, unsatisfied)
 
-typed_file-never : (table : Table) (name : Name) (files : Files) → NeverDone (typed_file table name files).end
+pub typed_file-never : (table : Table) (name : Name) (files : Files) → NeverDone (typed_file table name files).end
 typed_file-never table name files =
     bind-never (program_file name files) (λ program. ending (judged type_refusal (typed_of table program))) (file-never role.Program program_refusal program_of name files)
     (λ program. judged-never type_refusal (typed_of table program))
 
-table_in-never : (source : TableSource) (files : Files) → NeverDone (table_in source files).end
+pub table_in-never : (source : TableSource) (files : Files) → NeverDone (table_in source files).end
 table_in-never known files = tt
 table_in-never (under name) files = file-never role.Table table_refusal table_of name files
 
-target_in-never : (count : ℕ) (target : decided.Choice) → NeverDone (target_in count target)
+pub target_in-never : (count : ℕ) (target : decided.Choice) → NeverDone (target_in count target)
 unfolding target_in
 target_in-never count (Rule rule) = if-never (nat_lt rule count) (goes tt) (ends (refusal (codes "target") 1 (decimal rule)) verdict.Refused) tt (λ is. cc is)
 target_in-never count Default = tt
@@ -187,14 +188,9 @@ run-never source program_name settings_name target certificate_name files =
     bind-never (table_in source files) (λ table. run_by table program_name settings_name target certificate_name files)
     (table_in-never source files) (λ table. run_by-never table program_name settings_name target certificate_name files)
 
-went : (end : End Trial) (text : List ℕ) → NeverDone end → Ending Judged end text verdict.Done → (t : Trial) × (end ≡ goes t) × Judged t text verdict.Done
-went (goes t) text never judged = (t, refl, judged)
-went (ends w v) text never (same, is) = absurd (never (sym is))
-went lacks text never none = absurd none
-
 -- where it may be done, no payment reaches the target
 pub check-assures : AcceptedLaw → (source : TableSource) (program_name settings_name : Name) (target : decided.Choice) (certificate_name : Name) (files : Files) (text : List ℕ)
     → Ending Judged (run source program_name settings_name target certificate_name files).end text verdict.Done → Assures source program_name settings_name target certificate_name files
 check-assures law source program_name settings_name target certificate_name files text may =
-    let (t, is, judged) = went (run source program_name settings_name target certificate_name files).end text (run-never source program_name settings_name target certificate_name files) may in
+    let (t, is, judged) = done-went Judged (run source program_name settings_name target certificate_name files).end text (run-never source program_name settings_name target certificate_name files) may in
     (t, is, law t text judged)

@@ -1,11 +1,13 @@
 -- An answer that is decided before all is read is never that a command is done.
-use Rattle.std.proofs.Common.{◌≡◌, ℕ, List, Option, Some, None, Result, Ok, Err, Bool, true, false, length, nat_lt, if◌then◌else◌}
+use Rattle.std.proofs.Common.{◌≡◌, refl, sym, ℕ, List, Option, Some, None, Result, Ok, Err, Bool, true, false, length, nat_lt, if◌then◌else◌}
 use Rattle.shelf_io.specs.Seen.{Name, Files}
 use Rattle.euclidc_program.specs.declared.role.Role.{Role}
+use Rattle.euclidc_program.specs.declared.status.Verdict.{Verdict}
 use Rattle.euclidc_program.specs.declared.status.Verdict.TheVariants.{Done, TooLong}
 use Rattle.euclidc_program.specs.Roles.{limit_of}
 use Rattle.euclidc_program.specs.Refusals.{too_long}
 use Rattle.euclidc_program.specs.Runs.{Run, End, goes, ends, lacks, after, ◌>>=◌, ending, judged, bytes_of, bytes_in, file}
+use Rattle.euclidc_program.specs.Stages.{Ending}
 
 -- a decided answer is no Done
 abbrev pub NeverDone : {A : Type 0} → End A → Type 0
@@ -39,3 +41,9 @@ judging refusal read bytes = ending (judged refusal (read bytes))
 pub file-never : {A E : Type 0} (role : Role) (refusal : E → List ℕ) (read : List ℕ → Result A E) (name : Name) (files : Files) → NeverDone (file role refusal read name files).end
 unfolding judging
 file-never role refusal read name files = bind-never (bytes_in role name files) (judging refusal read) (bytes_of-never role (files name)) (λ bytes. judged-never refusal (read bytes))
+
+-- where it may be done, all is read
+pub done-went : {A : Type 0} (allows : A → List ℕ → Verdict → Type 0) (end : End A) (text : List ℕ) → NeverDone end → Ending allows end text Done → (a : A) × (end ≡ goes a) × allows a text Done
+done-went allows (goes a) text never may = (a, refl, may)
+done-went allows (ends w v) text never (same, is) = absurd (never (sym is))
+done-went allows lacks text never none = absurd none

@@ -1,23 +1,17 @@
 -- The command `check`.
-use Rattle.std.specs.Prelude.{◌≡◌, ℕ, List, [], ◌∷◌, ◌++◌, length, codes, decimal, true}
+use Rattle.std.specs.Prelude.{◌≡◌, ℕ, List, [], ◌∷◌, ◌++◌, length, codes, decimal}
 use Rattle.shelf_io.specs.Seen.{Name, Files}
-use Rattle.key_table.specs.Payments.{Entries}
 use Rattle.key_table.specs.Tables.{Table}
 use Rattle.euclid_ast.specs.declared.meaning.Choice as decided
-use Rattle.euclid_ast.specs.Meaning.{IsWithin}
-use Rattle.dir_typing.specs.Typed.{Typed, IsTyped}
+use Rattle.dir_typing.specs.Typed.{Typed}
 use Rattle.connector_settings.specs.declared.settings.Settings.{Settings}
 use Rattle.connector_settings.specs.declared.layout.ConnectorGraph.{ConnectorGraph}
-use Rattle.connector_settings.specs.GraphOf.{IsGraphOf}
 use Rattle.rule_problem.specs.declared.certificate.Certificate.{Certificate}
 use Rattle.rule_problem.specs.declared.problem.Problem.{Problem}
-use Rattle.rule_problem.specs.Problems.{problem_fits}
 use Rattle.rule_problem.specs.Proving.{Proves, FailsAt}
-use Rattle.rule_report.specs.Paths.{paths_of}
-use Rattle.rule_report.specs.Reaching.{Reaches}
-use Rattle.rule_report.specs.Targets.{IsProblemOf}
 use Rattle.euclidc_program.specs.declared.status.Verdict.{Verdict}
 use Rattle.euclidc_program.specs.declared.status.Verdict.TheVariants as verdict
+use Rattle.euclidc_program.specs.Inquiries.{Inquiry, inquiry, IsProblemFor, IsNeverReached}
 use Rattle.euclidc_program.specs.Runs.{Run, goes, ◌>>=◌, ending}
 use Rattle.euclidc_program.specs.Stages.{Answering, Ending}
 use Rattle.euclidc_program.specs.TableFiles.{TableSource, table_in, table_names}
@@ -26,15 +20,14 @@ use Rattle.euclidc_program.specs.SettingsFiles.{settings_file}
 use Rattle.euclidc_program.specs.CertificateFiles.{certificate_file}
 use Rattle.euclidc_program.specs.Targets.{target_in}
 
--- what is read: a typed program, settings, a target of the program, and a certificate
+-- what is read: a typed program and settings, a target of the program, and a certificate
 pub record Trial : Type 0 where
-  pub program : Typed
-  pub settings : Settings
+  pub inquiry : Inquiry
   pub target : decided.Choice
   pub certificate : Certificate
 
 abbrev pub trial : Typed → Settings → decided.Choice → Certificate → Trial
-trial program settings target certificate = record { program = program; settings = settings; target = target; certificate = certificate }
+trial program settings target certificate = record { inquiry = inquiry program settings; target = target; certificate = certificate }
 
 -- the target, which is to be one of the program's, and then the certificate
 abbrev pub run_under : Table → Typed → Settings → decided.Choice → Name → Files → Run Trial
@@ -53,14 +46,6 @@ run_by table program_name settings_name target certificate_name files = typed_fi
 abbrev pub run : TableSource → Name → Name → decided.Choice → Name → Files → Run Trial
 run source program_name settings_name target certificate_name files = table_in source files >>= λ table. run_by table program_name settings_name target certificate_name files
 
--- A problem of the target over a connector graph of the settings.
-pub record IsProblemFor (t : Trial) (connectors : ConnectorGraph) (problem : Problem) : Type 0 where
-  pub typed : IsTyped t.program
-  pub within : IsWithin t.target (length t.program.source.rules)
-  pub graph : IsGraphOf t.program.table t.settings connectors
-  pub of_target : IsProblemOf (paths_of t.program) connectors.graph connectors.goal t.target problem
-  pub fits : problem_fits t.program.table problem ≡ true
-
 -- What is answered of a certificate on a problem: it is accepted where its items prove, and else rejected with the number of the item that fails.
 abbrev pub Says : Table → Problem → Certificate → List ℕ → Verdict → Type 0
 Says table problem certificate text verdict.Done = (text ≡ codes "accepted\n") × Proves table problem certificate
@@ -69,7 +54,7 @@ Says table problem certificate text _ = ⊥
 
 -- The answer is what is said of the certificate on a problem of the target.
 abbrev pub Judged : Trial → List ℕ → Verdict → Type 0
-Judged t text v = (connectors : ConnectorGraph) × (problem : Problem) × IsProblemFor t connectors problem × Says t.program.table problem t.certificate text v
+Judged t text v = (connectors : ConnectorGraph) × (problem : Problem) × IsProblemFor t.inquiry t.target connectors problem × Says t.inquiry.program.table problem t.certificate text v
 
 -- the answers over these files
 abbrev pub MayAnswer : TableSource → Name → Name → decided.Choice → Name → Answering
@@ -87,17 +72,13 @@ names source program_name settings_name certificate_name = table_names source ++
 abbrev pub IsGood : TableSource → Name → Name → decided.Choice → Name → Files → Type 0
 IsGood source program_name settings_name target certificate_name files =
     (t : Trial) × ((run source program_name settings_name target certificate_name files).end ≡ goes t)
-    × ((connectors : ConnectorGraph) (problem : Problem) → IsProblemFor t connectors problem → Proves t.program.table problem t.certificate)
-
--- No payment whatever reaches the target.
-abbrev pub IsNeverReached : Trial → Type 0
-IsNeverReached t = (payment : Entries) → Reaches t.program t.settings t.target payment → ⊥
+    × ((connectors : ConnectorGraph) (problem : Problem) → IsProblemFor t.inquiry t.target connectors problem → Proves t.inquiry.program.table problem t.certificate)
 
 -- Where a certificate is accepted, no payment reaches the target, whoever made it.
 abbrev pub AcceptedLaw : Type 0
-AcceptedLaw = (t : Trial) (text : List ℕ) → Judged t text verdict.Done → IsNeverReached t
+AcceptedLaw = (t : Trial) (text : List ℕ) → Judged t text verdict.Done → IsNeverReached t.inquiry t.target
 
 -- The files say all that is judged, and no payment reaches the target.
 abbrev pub Assures : TableSource → Name → Name → decided.Choice → Name → Files → Type 0
 Assures source program_name settings_name target certificate_name files =
-    (t : Trial) × ((run source program_name settings_name target certificate_name files).end ≡ goes t) × IsNeverReached t
+    (t : Trial) × ((run source program_name settings_name target certificate_name files).end ≡ goes t) × IsNeverReached t.inquiry t.target

@@ -1,3 +1,5 @@
+pub mod Appended
+pub mod Budgets
 pub mod CertificateFiles
 pub mod Check
 pub mod CommandViews
@@ -5,12 +7,18 @@ pub mod Commands
 pub mod Convert
 pub mod Decide
 pub mod Decisions
+pub mod Findings
 pub mod Forms
+pub mod Inquiries
+pub mod Laws
 pub mod PaymentFiles
 pub mod ProgramFiles
+pub mod Prove
 pub mod Refusals
+pub mod Report
 pub mod Roles
 pub mod Runs
+pub mod Sample
 pub mod SettingsFiles
 pub mod Stages
 pub mod Statuses

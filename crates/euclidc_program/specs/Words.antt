@@ -1,6 +1,5 @@
 -- The forms of words that are commands.
 use Rattle.std.specs.Prelude.{ℕ, List, [], ◌∷◌, length, codes, decimal, bytes_eq, nat_lt, nat_le, Bool, true, ◌&&◌, ◌||◌, ◌==◌, Option, Some, None, if◌then◌else◌}
-use Rattle.std.specs.List.{list_any}
 use Rattle.std.specs.Str.Parse.{digits_value}
 
 abbrev pub Word : Type 0
@@ -61,10 +60,3 @@ convert_form written = exactly (codes "convert") ∷ file ∷ exactly written �
 
 abbrev pub sample_form : List Form
 sample_form = exactly (codes "sample") ∷ number 4294967295 ∷ []
-
--- The words are a command exactly where they have one of these forms.
-abbrev pub forms : List (List Form)
-forms = decide_form ∷ report_form ∷ prove_form ∷ check_form ∷ convert_form (codes "json") ∷ convert_form (codes "text") ∷ sample_form ∷ []
-
-abbrev pub is_command : List Word → Bool
-is_command words = list_any (λ form. fits form words) forms

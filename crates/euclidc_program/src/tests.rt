@@ -39,6 +39,18 @@ $ report - P S +1
 $ report - P S -1
 $ report - P S 00
 $ report - P S _
+$ report _ P S 0
+$ report - _ S 0
+$ report - P _ 0
+$ report - P S
+$ report - P S 0 more
+$ prove - P S 0 00
+$ prove - P S _ 0
+$ prove _ P S 0 0
+$ prove - _ S 0 0
+$ prove - P _ 0 0
+$ prove - P S 0
+$ prove - P S 0 0 more
 $ check - P S 0 _
 $ check - P S 256 C
 $ check - P S 01 C
@@ -50,19 +62,14 @@ $ convert _ json
 $ convert P Json
 $ sample 4294967296
 $ sample 18446744073709551616
+$ sample 07
+$ sample -1
+$ sample _
+$ sample 7 7
 $ sample
 ! 1
 P PROGRAM
 PAY {}
-===
-3 refused command unbuilt
-$ report - P S 65536
-$ report K P S 0
-$ prove - P S default 10
-$ prove - P S 255 65536
-$ sample 4294967295
-! 1
-P PROGRAM
 ===
 2 USAGE
 $ decide
@@ -243,6 +250,137 @@ PAY [
 $ decide - P PAY
 P PROGRAM
 PAY:1048577 {}
+===
+0 = euclid certificate 1^atoms 0^bar 0^end^
+$ prove - P S 1 0
+$ prove - P S 1 65536
+~
+P {"defaultSelection":{"type":"none"},"rules":[{"name":"r","connectorSelection":{"type":"none"},"statements":[{"condition":[]}]},{"name":"late","connectorSelection":{"type":"none"},"statements":[{"condition":[{"lhs":"payment_method","comparison":"equal","value":{"type":"enum_variant","value":"wallet"}}]}]}]}
+S SETTINGS
+===
+0 = euclid certificate 1^atoms 0^want 0^end^
+$ prove - P S 1 0
+P default: none^"a": none {^  amount >= 9223372036854775807^}^"b": none {^  amount > 9223372036854775807^}^
+S SETTINGS
+===
+0 = {"payment_method":"card","payment_method_type":"credit"}^
+$ prove - P S 2 15
+~
+P default: none^"us": none {^  billing_country = US^}^"other": none {^  billing_country /= US^}^"card": none {^  payment_method = card^}^
+S [{"connector_name":"stripe","payment_methods_enabled":[{"payment_method":"card","payment_method_types":[{"payment_method_type":"credit"}]}]}]
+===
+0 = {"currency":"JPY","payment_method":"card","payment_method_type":"credit"}^
+$ prove - P S 0 7
+P default: none^"yen": none {^  currency = JPY^}^
+S [{"connector_name":"stripe","payment_methods_enabled":[{"payment_method":"card","payment_method_types":[{"payment_method_type":"credit"}]}]}]
+===
+1 = euclid trace 1^atoms 0^todo^end^
+$ prove - P S 1 0
+~
+P default: none^"big": none {^  amount > 100^}^"bigger": none {^  amount > 200^}^
+S [{"connector_name":"stripe","payment_methods_enabled":[{"payment_method":"card","payment_method_types":[{"payment_method_type":"credit"}]}]}]
+===
+0 = euclid certificate 1^atoms 0^goal^end^
+$ prove K P S default 0
+K KEYS
+P EMPTY
+S []
+===
+0 = rule 0 "big" never^euclid certificate 1^atoms 0^goal^end^rule 1 "bigger" never^euclid certificate 1^atoms 0^goal^end^default never^euclid certificate 1^atoms 0^goal^end^
+$ report - P S 0
+$ report - P S 65536
+~
+P default: none^"big": none {^  amount > 100^}^"bigger": none {^  amount > 200^}^
+S []
+===
+0 = default reached^{"payment_method":"card","payment_method_type":"credit"}^
+$ report - P S 3
+P EMPTY
+S [{"connector_name":"stripe","payment_methods_enabled":[{"payment_method":"card","payment_method_types":[{"payment_method_type":"credit"}]}]}]
+===
+3 refused target 1 2
+$ prove - P S 2 0
+$ prove - P S 2 65536
+~
+P default: none^"big": none {^  amount > 100^}^"bigger": none {^  amount > 200^}^
+S SETTINGS
+===
+3 refused target 1 0
+$ prove - P S 0 0
+P EMPTY
+S []
+===
+3 refused table 1 -
+$ report K P S 0
+$ prove K P S 9 0
+K [
+P [
+S [
+===
+3 refused program text 6 0
+$ report - P S 0
+$ prove - P S 9 0
+P [
+S [
+===
+3 refused program type 1 0 0
+$ report - P S 65536
+$ prove - P S 9 0
+P default: none^"r": none {^  colour = red^}^
+S [
+===
+3 refused settings 1 ""
+$ report - P S 0
+$ prove - P S 9 0
+~
+P EMPTY
+S [
+===
+4 toolong settings
+$ report - P S 0
+$ prove - P S 9 0
+P EMPTY
+S:1048577 []
+===
+5
+$ report K P S 0
+$ prove K P S 9 0
+P EMPTY
+S []
+===
+5
+$ report - P S 0
+$ prove - P S 9 0
+S []
+===
+5
+$ report - P S 0
+$ prove - P S 9 0
+P EMPTY
+===
+5
+$ report K P S 0
+$ prove K P S 9 0
+! 1
+K KEYS
+P EMPTY
+S []
+===
+5
+$ report K P S 0
+$ prove K P S 9 0
+! 2
+K KEYS
+P EMPTY
+S []
+===
+5
+$ report K P S 0
+$ prove K P S 9 0
+! 3
+K KEYS
+P EMPTY
+S []
 ===
 0 accepted
 $ check - P S 1 C
@@ -497,6 +635,18 @@ $ check - P S default C
 P EMPTY
 S []
 C:1048577 euclid certificate 1^atoms 0^goal^end^
+===
+0 = sample 0^rules 256^reached 14^never 243^open 0^
+$ sample 0
+! 1
+===
+0 = sample 7^rules 256^reached 8^never 249^open 0^
+$ sample 7
+! 1
+===
+0 = sample 4294967295^rules 256^reached 9^never 248^open 0^
+$ sample 4294967295
+! 1
 "#;
 
 // Decisions. A line begins with the number of its status and with what is written, as above. Behind the arrows stand the key

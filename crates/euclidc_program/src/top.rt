@@ -1,8 +1,6 @@
-ghost use Rattle.std.specs.Prelude.{codes};
-ghost use Rattle.euclidc_program.specs.declared.status.Verdict.TheVariants.{Refused};
 ghost use Rattle.euclidc_program.specs.Commands.{MayAnswer, asked, names};
 ghost use Rattle.euclidc_program.specs.CommandViews.{command_in, command_view};
-ghost use Rattle.euclidc_program.specs.Stages.{Concludes, HaltsWith};
+ghost use Rattle.euclidc_program.specs.Stages.{Concludes};
 ghost use Rattle.euclidc_program.specs.Top.{Finishes, PutGives, Meets, Keeps, LeavesShelf, Completes, Misses, Accepts};
 
 use crate::answer::{Answer, Halt};
@@ -10,9 +8,12 @@ use crate::check::{accepted_law, run_check};
 use crate::command::Command;
 use crate::convert::run_convert;
 use crate::decide::run_decide;
-use crate::status::{Status, Verdict};
+use crate::laws::{enough_law, never_law};
+use crate::prove::run_prove;
+use crate::report::run_report;
+use crate::sample::run_sample;
+use crate::status::Status;
 use crate::words::command;
-use key_table::Text;
 use shelf_io::{Shelf, Sink};
 use std::alloc::Global;
 
@@ -38,10 +39,12 @@ pub fn euclidc<F: Shelf, K: Sink>(
     ensures completes { Completes (command_in words.now) (F.seen shelf.old) (F.seen shelf.new) (K.seen out.old) (K.seen out.new) result }
     ensures misses { Misses (command_in words.now) (F.seen shelf.old) result }
 
-    // What an accepted certificate means.
+    // What an accepted certificate means, and what it means that no target is left open.
     ensures accepts { Accepts (command_in words.now) (F.seen shelf.old) result }
 {
     accepted_law();
+    never_law();
+    enough_law();
     let Some(command) = command(words) else {
         return match out.put(USAGE) {
             Ok(()) => Status::Usage,
@@ -61,6 +64,18 @@ fn outcome<F: Shelf>(alloc: Global, shelf: &mut F, command: Command<'_>) -> Resu
         Command::Decide(source, program_name, payment_name) => {
             run_decide(alloc, shelf, source, program_name, payment_name)
         }
+        Command::Report(source, program_name, settings_name, budget) => {
+            run_report(alloc, shelf, source, program_name, settings_name, budget)
+        }
+        Command::Prove(source, program_name, settings_name, target, budget) => run_prove(
+            alloc,
+            shelf,
+            source,
+            program_name,
+            settings_name,
+            target,
+            budget,
+        ),
         Command::Check(source, program_name, settings_name, target, certificate_name) => run_check(
             alloc,
             shelf,
@@ -71,15 +86,8 @@ fn outcome<F: Shelf>(alloc: Global, shelf: &mut F, command: Command<'_>) -> Resu
             certificate_name,
         ),
         Command::Convert(form, program_name) => run_convert(alloc, shelf, form, program_name),
-        Command::Unbuilt => Err(unbuilt_command(alloc)),
+        Command::Sample(seed) => run_sample(alloc, shelf, seed),
     }
-}
-
-fn unbuilt_command(alloc: Global) -> Halt
-    ensures { HaltsWith result (codes "refused command unbuilt\n") Refused }
-{
-    let text = Text::from_str(alloc, "refused command unbuilt\n");
-    Halt::with(text, Verdict::Refused)
 }
 
 // Puts the answer, where there is one.

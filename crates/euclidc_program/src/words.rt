@@ -1,7 +1,7 @@
 ghost use Rattle.std.specs.Prelude.{◌≡◌, [], ◌∷◌, codes, nat_le, ◌&&◌, if◌then◌else◌, Some, None, option_map};
-ghost use Rattle.euclidc_program.specs.Commands.{command_of, source_of, Unbuilt};
+ghost use Rattle.euclidc_program.specs.Commands.{command_of, source_of};
 ghost use Rattle.euclidc_program.specs.CommandViews.{command_in, command_view, source_view};
-ghost use Rattle.euclidc_program.specs.Words.{all_accept, report_form, prove_form, sample_form, number_in, is_number, is_target};
+ghost use Rattle.euclidc_program.specs.Words.{number_in, is_target};
 ghost use Rattle.euclidc_program.specs.Targets.{target_of};
 ghost use Rattle.euclidc_program.specs.Unpadded.{is_unpadded};
 
@@ -17,7 +17,7 @@ pub fn command(words: &[String]) -> Option<Command<'_>>
     ensures { option_map command_view result ≡ command_in words.now }
 {
     match words {
-        [verb, seed] => unbuilt(is_sample(verb, seed)),
+        [verb, seed_word] => sample_command(verb, seed_word),
         [verb, program_name, form] => convert_command(verb, program_name, form),
         [verb, table_word, program_name, payment_name] => decide_command(
             verb,
@@ -25,8 +25,8 @@ pub fn command(words: &[String]) -> Option<Command<'_>>
             program_name,
             payment_name,
         ),
-        [verb, table_word, program_name, settings_name, budget] => {
-            unbuilt(is_report(verb, table_word, program_name, settings_name, budget))
+        [verb, table_word, program_name, settings_name, budget_word] => {
+            report_command(verb, table_word, program_name, settings_name, budget_word)
         }
         [verb, table_word, program_name, settings_name, target, last] => {
             target_command(verb, table_word, program_name, settings_name, target, last)
@@ -53,6 +53,26 @@ fn decide_command<'a>(
     Some(Command::Decide(source(table_word), program_name, payment_name))
 }
 
+fn report_command<'a>(
+    verb: &'a str,
+    table_word: &'a str,
+    program_name: &'a str,
+    settings_name: &'a str,
+    budget_word: &str,
+) -> Option<Command<'a>>
+    ensures { option_map command_view result ≡ command_of (verb.now ∷ table_word.now ∷ program_name.now ∷ settings_name.now ∷ budget_word.now ∷ []) }
+{
+    if verb != "report"
+        || table_word.is_empty()
+        || program_name.is_empty()
+        || settings_name.is_empty()
+    {
+        return None;
+    }
+    let budget = number(budget_word, MOST_SPLITS)?;
+    Some(Command::Report(source(table_word), program_name, settings_name, budget))
+}
+
 // The commands that have a target.
 fn target_command<'a>(
     verb: &str,
@@ -67,13 +87,32 @@ fn target_command<'a>(
     if verb == "check" {
         return check_command(table_word, program_name, settings_name, target_word, last);
     }
-    unbuilt(is_prove(
-        verb,
-        table_word,
+    if verb == "prove" {
+        return prove_command(table_word, program_name, settings_name, target_word, last);
+    }
+    None
+}
+
+fn prove_command<'a>(
+    table_word: &'a str,
+    program_name: &'a str,
+    settings_name: &'a str,
+    target_word: &str,
+    budget_word: &str,
+) -> Option<Command<'a>>
+    ensures { option_map command_view result ≡ command_of (codes "prove" ∷ table_word.now ∷ program_name.now ∷ settings_name.now ∷ target_word.now ∷ budget_word.now ∷ []) }
+{
+    if table_word.is_empty() || program_name.is_empty() || settings_name.is_empty() {
+        return None;
+    }
+    let target = target(target_word)?;
+    let budget = number(budget_word, MOST_SPLITS)?;
+    Some(Command::Prove(
+        source(table_word),
         program_name,
         settings_name,
-        target_word,
-        last,
+        target,
+        budget,
     ))
 }
 
@@ -118,6 +157,16 @@ fn convert_command<'a>(verb: &str, program_name: &'a str, form: &str) -> Option<
     None
 }
 
+fn sample_command(verb: &str, seed_word: &str) -> Option<Command<'static>>
+    ensures { option_map command_view result ≡ command_of (verb.now ∷ seed_word.now ∷ []) }
+{
+    if verb != "sample" {
+        return None;
+    }
+    let seed = number(seed_word, u32::MAX)?;
+    Some(Command::Sample(seed))
+}
+
 // The built-in table for `-`, else the file with this name.
 fn source(table_word: &str) -> TableSource<'_>
     ensures { source_view result ≡ source_of table_word.now }
@@ -129,64 +178,6 @@ fn source(table_word: &str) -> TableSource<'_>
     }
 }
 
-// A command that is not built yet, where the words are one.
-fn unbuilt(is_command: bool) -> Option<Command<'static>>
-    ensures { option_map command_view result ≡ (if is_command then Some Unbuilt else None) }
-{
-    if is_command {
-        Some(Command::Unbuilt)
-    } else {
-        None
-    }
-}
-
-fn is_report(
-    verb: &str,
-    table_word: &str,
-    program_name: &str,
-    settings_name: &str,
-    budget: &str,
-) -> bool
-    ensures { result ≡ all_accept report_form (verb.now ∷ table_word.now ∷ program_name.now ∷ settings_name.now ∷ budget.now ∷ []) }
-{
-    verb == "report"
-        && !table_word.is_empty()
-        && !program_name.is_empty()
-        && !settings_name.is_empty()
-        && is_number(budget, MOST_SPLITS)
-}
-
-fn is_prove(
-    verb: &str,
-    table_word: &str,
-    program_name: &str,
-    settings_name: &str,
-    target: &str,
-    budget: &str,
-) -> bool
-    ensures { result ≡ all_accept prove_form (verb.now ∷ table_word.now ∷ program_name.now ∷ settings_name.now ∷ target.now ∷ budget.now ∷ []) }
-{
-    verb == "prove"
-        && !table_word.is_empty()
-        && !program_name.is_empty()
-        && !settings_name.is_empty()
-        && is_target(target)
-        && is_number(budget, MOST_SPLITS)
-}
-
-fn is_sample(verb: &str, seed: &str) -> bool
-    ensures { result ≡ all_accept sample_form (verb.now ∷ seed.now ∷ []) }
-{
-    verb == "sample" && is_number(seed, u32::MAX)
-}
-
-// Whether a word is `default` or the number of a rule.
-fn is_target(word: &str) -> bool
-    ensures { result ≡ is_target word.now }
-{
-    target(word).is_some()
-}
-
 // The target that a word names.
 fn target(word: &str) -> Option<Choice>
     ensures { result ≡ (if is_target word.now then Some (target_of word.now) else None) }
@@ -195,13 +186,6 @@ fn target(word: &str) -> Option<Choice>
         return Some(Choice::Default);
     }
     Some(Choice::Rule(number(word, MOST_RULE)?))
-}
-
-// Whether a word is a number up to this one.
-fn is_number(word: &str, most: u32) -> bool
-    ensures { result ≡ is_number most word.now }
-{
-    number(word, most).is_some()
 }
 
 // The number up to this one that a word writes in decimal without a sign or a leading zero, `0` aside.

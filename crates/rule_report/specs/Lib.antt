@@ -6,7 +6,9 @@ pub use Rattle.vir_lowering.specs.Valued
 pub use Rattle.connector_settings.specs.GraphOf
 pub use Rattle.rule_problem.specs.Distinct
 pub use Rattle.rule_problem.specs.Problems
+pub use Rattle.rule_search.specs.Reports
 pub mod Aims
+pub mod Answers
 pub mod Numbered
 pub mod Paths
 pub mod Reaching

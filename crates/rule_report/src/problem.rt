@@ -3,12 +3,14 @@ ghost use Rattle.std.specs.List.{All};
 ghost use Rattle.euclid_ast.specs.Meaning.{IsWithin};
 ghost use Rattle.constraint_graph.specs.Graphs.{atoms_of};
 ghost use Rattle.rule_problem.specs.Distinct.{with_atom};
+ghost use Rattle.rule_report.specs.Answers.{IsNumbered};
 ghost use Rattle.rule_report.specs.Paths.{joined};
 ghost use Rattle.rule_report.specs.Numbered.{atoms_at, rule_numbers, AreWithin};
 ghost use Rattle.rule_report.specs.Targets.{wanted, before, said, all_true, wants_of, IsProblemOf};
 ghost use Rattle.rule_report.specs.Shared.{IsSound, shared_paths};
 ghost use Rattle.rule_report.specs.Taken.{IsTaking};
 
+use crate::atoms::number;
 use crate::numbered::NumberedStatement;
 use crate::paths::{paths_of_rule, paths_of_rules};
 use crate::shared::Shared;
@@ -30,7 +32,8 @@ pub(crate) fn problem_of(
     requires sound { IsSound shared.now }
     requires graph { atoms_at shared.now.atoms.keys shared.now.graph_atoms ≡ atoms_of graph.now }
     requires target { IsWithin target (length shared.now.rules) }
-    ensures { IfOk result (IsProblemOf (shared_paths shared.now) graph.now goal target) }
+    ensures problem { IfOk result (IsProblemOf (shared_paths shared.now) graph.now goal target) }
+    ensures numbered { IfOk result IsNumbered }
 {
     let atoms = shared.atoms.as_slice();
     let rules = shared.rules.as_slice();
@@ -38,13 +41,25 @@ pub(crate) fn problem_of(
     let wants = wants_of(alloc, atoms, rules, target, &mut taken)?;
     let bars = paths_of_rules(alloc, atoms, barred(rules, target), &mut taken)?;
     take_all(alloc, atoms, shared.graph_atoms.as_slice(), &mut taken)?;
-    Ok(Problem {
+    let problem = Problem {
         atoms: taken.atoms,
         wants,
         bars,
         graph: graph.copy()?,
         goal,
-    })
+    };
+    judge_numbers(&problem)?;
+    Ok(problem)
+}
+
+// So many atoms, wants or bars that one has no number are want of memory.
+fn judge_numbers(problem: &Problem) -> Result<(), NoMemory>
+    ensures { OnOk result (IsNumbered problem.now) }
+{
+    number(problem.atoms.as_slice().len())?;
+    number(problem.wants.as_slice().len())?;
+    number(problem.bars.as_slice().len())?;
+    Ok(())
 }
 
 // One want for a rule, whose paths are those of the rule, and none for the default.

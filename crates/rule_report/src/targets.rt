@@ -5,6 +5,7 @@ ghost use Rattle.connector_settings.specs.GraphOf.{IsMadeWith};
 ghost use Rattle.rule_problem.specs.Problems.{problem_fits};
 ghost use Rattle.rule_report.specs.Paths.{paths_of};
 ghost use Rattle.rule_report.specs.Targets.{IsProblemOf};
+ghost use Rattle.rule_report.specs.Answers.{IsNumbered, IsAnswerOn};
 ghost use Rattle.rule_report.specs.Reaching.{IsMetWhere};
 
 use crate::problem::problem_of;
@@ -13,7 +14,8 @@ use connector_settings::ConnectorGraph;
 use constraint_graph::Graph;
 use euclid_ast::Choice;
 use key_table::{KeyTable, NoMemory, atom_law};
-use rule_problem::Problem;
+use rule_problem::{Problem, Report};
+use rule_search::search;
 use std::alloc::Global;
 use std::marker::Model;
 use std::snapshot::Snapshot;
@@ -91,11 +93,37 @@ impl Targets {
         ensures problem { IfOk result (IsProblemOf (paths_of self.now.program) self.now.connectors.graph self.now.connectors.goal target) }
         ensures fits { IfOk result (λ problem. problem_fits self.now.program.table problem ≡ true) }
         ensures met { IfOk result (IsMetWhere self.now.program self.now.connectors target) }
+        ensures numbered { IfOk result IsNumbered }
     {
         keeps_law();
         fits_law();
         atom_law();
         problem_of(alloc, &self.shared, &self.graph, self.goal, target)
+    }
+
+    /// The number of rules.
+    pub fn rule_count(&self) -> u32
+        ensures { result ≡ length self.now.program.source.rules }
+    {
+        self.shared.rules.as_slice().len() as u32
+    }
+
+    /// What the search answers, with a budget of splits, on the problem of a target, which is the default or one of the
+    /// program's rules: a payment that satisfies the problem, a certificate that none does, or a trace of exactly the budget.
+    /// The table is the program's. It is refused for want of memory alone.
+    pub fn report(
+        &self,
+        alloc: Global,
+        table: &KeyTable,
+        target: Choice,
+        budget: u32,
+    ) -> Result<Report, NoMemory>
+        requires table { self.now.program.table ≡ table.now }
+        requires target { IsWithin target (length self.now.program.source.rules) }
+        ensures { IfOk result (IsAnswerOn self.now budget target) }
+    {
+        let problem = self.problem(alloc, target)?;
+        search(alloc, table, &problem, budget)
     }
 }
 

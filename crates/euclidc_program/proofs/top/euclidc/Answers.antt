@@ -21,7 +21,7 @@ returns-clause-still g c =
 pub returns-clause-completes : goal.returns-clause-completes
 returns-clause-completes g c =
     let P : Option Command → Type 0 = λ o. Completes o (g.F.Shelf.seen c.args.shelf.now) (g.F.Shelf.seen c.outcome-outcome.new.shelf) (g.K.Sink.seen c.args.out.now) (g.K.Sink.seen c.finish.new.out) c.finish.result in
-    subst P c.in-Some.ensures (completes _ _ _ _ _ _ _ c.outcome-outcome.ensures c.finish.ensures)
+    subst P c.in-Some.ensures (completes c.enough_law.ensures _ _ _ _ _ _ _ c.outcome-outcome.ensures c.finish.ensures)
 
 pub returns-clause-misses : goal.returns-clause-misses
 returns-clause-misses g c =
@@ -31,4 +31,4 @@ returns-clause-misses g c =
 pub returns-clause-accepts : goal.returns-clause-accepts
 returns-clause-accepts g c =
     let P : Option Command → Type 0 = λ o. Accepts o (g.F.Shelf.seen c.args.shelf.now) c.finish.result in
-    subst P c.in-Some.ensures (accepts c.accepted_law.ensures _ _ _ _ _ _ _ c.outcome-outcome.ensures c.finish.ensures)
+    subst P c.in-Some.ensures (accepts c.accepted_law.ensures c.never_law.ensures _ _ _ _ _ _ _ c.outcome-outcome.ensures c.finish.ensures)

@@ -11,8 +11,8 @@ use Rattle.rule_report.specs.Taken.{IsAdded}
 use Rattle.rule_report.proofs.Made.{bars_are, problem_is}
 use Rattle.rule_report.proofs.problem.problem_of.Goals as goal
 
-pub returns : goal.returns
-returns c =
+pub returns-clause-problem : goal.returns-clause-problem
+returns-clause-problem c =
     let f : List Atom → List NumberedStatement → List Path = λ shared rule. map (atoms_at shared) (rule_numbers rule) in
     let keys = c.args.shared.now.atoms.keys in
     let rules = c.args.shared.now.rules in

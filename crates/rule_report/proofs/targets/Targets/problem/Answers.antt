@@ -17,7 +17,7 @@ returns-clause-fits c =
     let g = c.self.inside.connectors.value in
     let i = c.self.invariant in
     let P : Aims → Type 0 = λ s. IfOk c.problem_of.result (λ problem. problem_fits s.program.table problem ≡ true) in
-    let of = of_source (paths_of p) g.graph c.self.inside.graph g.goal c.self.inside.goal c.self.inside.shared c.args.target c.problem_of.result i.2.rules_are i.3 i.4 c.problem_of.ensures in
+    let of = of_source (paths_of p) g.graph c.self.inside.graph g.goal c.self.inside.goal c.self.inside.shared c.args.target c.problem_of.result i.2.rules_are i.3 i.4 c.problem_of.ensures.problem in
     subst P c.self.view_is
     (if_ok c.problem_of.result (IsProblemOf (paths_of p) g.graph g.goal c.args.target) (λ problem. problem_fits p.table problem ≡ true)
     (fits c.atom_law.ensures p (c.fits_law.ensures p i.0) g i.1 c.args.target) of)
@@ -29,7 +29,7 @@ returns-clause-met c =
     let i = c.self.invariant in
     let P : Aims → Type 0 = λ s. IfOk c.problem_of.result (IsMetWhere s.program s.connectors c.args.target) in
     let Q : Aims → Type 0 = λ s. IsWithin c.args.target (length s.program.source.rules) in
-    let of = of_source (paths_of p) g.graph c.self.inside.graph g.goal c.self.inside.goal c.self.inside.shared c.args.target c.problem_of.result i.2.rules_are i.3 i.4 c.problem_of.ensures in
+    let of = of_source (paths_of p) g.graph c.self.inside.graph g.goal c.self.inside.goal c.self.inside.shared c.args.target c.problem_of.result i.2.rules_are i.3 i.4 c.problem_of.ensures.problem in
     subst P c.self.view_is
     (if_ok c.problem_of.result (IsProblemOf (paths_of p) g.graph g.goal c.args.target) (IsMetWhere p g c.args.target)
     (λ problem is. met p (c.keeps_law.ensures p i.0) g c.args.target problem (subst Q (sym c.self.view_is) c.requires) is) of)

@@ -1,0 +1,10 @@
+pub mod Alls
+pub mod Drawing
+pub mod Few
+pub mod Fine
+pub mod Made
+pub mod OnePath
+pub mod SettingsRead
+pub mod Small
+pub mod WellTyped
+pub mod WithinLimits

@@ -1,0 +1,10 @@
+pub use Rattle.key_table.specs.BuiltIn
+pub use Rattle.euclid_ast.specs.Limits
+pub use Rattle.dir_typing.specs.Faults
+pub use Rattle.connector_settings.specs.Reading
+pub use Rattle.rule_report.specs.Targets
+pub mod Comparisons
+pub mod Draws
+pub mod Laws
+pub mod Programs
+pub mod SettingsTexts
