@@ -112,6 +112,14 @@ cut_few table problem budget items f =
 abbrev pub begun : Table → Problem → Seen
 begun table problem = record { table = table; problem = problem; assumptions = [] }
 
+-- a store without assumptions is as one that is made
+pub begun_is : (s : Seen) → s.assumptions ≡ [] → s ≡ begun s.table s.problem
+begun_is s none = ap (λ a. record s { assumptions = a }) none
+
+-- The atoms of a store's problem are those of the store that it was, where nothing has changed.
+pub atoms_of_old : (slice : List Atom) (problem : Problem) (now old : Seen) → slice ≡ problem.atoms → problem ≡ now.problem → now ≡ old → slice ≡ old.problem.atoms
+atoms_of_old slice problem now old as_slice own same = as_slice ∙ ap (λ (p : Problem). p.atoms) own ∙ ap (λ (s : Seen). s.problem.atoms) same
+
 pub refuted_at : (table : Table) (problem : Problem) (start now : Seen) (budget splits : ℕ) (old new items : List Item) (o : Outcome) → start ≡ begun table problem → old ≡ [] → o ≡ Never splits → Finds start start now budget old new o → items ≡ new → Refutes (begun table problem) budget [] items splits
 refuted_at table problem start now budget splits old new items o made empty is found same =
     let f = (never_at start start now budget old new o splits is found).1 in

@@ -39,6 +39,11 @@ pub record CutsShort (at : Seen) (budget : ℕ) (old new : List Item) : Type 0 w
   pub proper : AreProper at.table at.problem (context_of at) tree
   pub exact : split_count tree ≡ budget
 
+-- The stores are of one table and one problem.
+pub record IsOfSame (old new : Seen) : Type 0 where
+  pub table : new.table ≡ old.table
+  pub problem : new.problem ≡ old.problem
+
 -- The store is one of the same problem, which its assumptions settle.
 pub record Settles (at now : Seen) : Type 0 where
   pub table : now.table ≡ at.table

@@ -2,6 +2,7 @@
 #![tactic(auto)]
 
 mod choosing;
+mod greedy;
 mod judging;
 mod naming;
 mod proposing;

@@ -49,6 +49,42 @@ impl Guide {
         }
     }
 
+    /// Literals that the goal waits for, one way down from it: all that an undecided node waits for where it needs all of them,
+    /// else the first.
+    pub(crate) fn toward_goal(
+        &self,
+        alloc: Global,
+        problem: &Problem,
+        verdicts: &[Verdict3],
+    ) -> Result<Vec<Literal>, NoMemory> {
+        let graph = &problem.graph;
+        let found = self.node_verdicts(alloc, graph, verdicts)?;
+        let mut literals = Vec::new(alloc);
+        let mut waiting = Vec::new(alloc);
+        waiting.push((problem.goal, true))?;
+        for _ in 0..graph.count() {
+            match waiting.pop() {
+                Some((node, want)) => {
+                    if let Some(atom) = self.undecided_atom(node, verdicts) {
+                        literals.push(Literal { atom, want })?;
+                    }
+                    wait_for(&mut waiting, graph, node, want, &found)?;
+                }
+                None => return Ok(literals),
+            }
+        }
+        Ok(literals)
+    }
+
+    // The number of the atom of a node, if it is undecided.
+    fn undecided_atom(&self, node: u32, verdicts: &[Verdict3]) -> Option<u32> {
+        if self.own(node, verdicts) != Some(Verdict3::Undecided) {
+            return None;
+        }
+        let atom = (*self.node_atoms.get(node as usize)?)?;
+        u32::try_from(atom).ok()
+    }
+
     // An atom of a want that waits or of a bar.
     fn branch(
         &self,
@@ -115,9 +151,7 @@ impl Guide {
         let mut node = goal;
         let mut alone = true;
         for _ in 0..graph.count() {
-            if self.own(node, verdicts) == Some(Verdict3::Undecided) {
-                let atom = (*self.node_atoms.get(node as usize)?)?;
-                let atom = u32::try_from(atom).ok()?;
+            if let Some(atom) = self.undecided_atom(node, verdicts) {
                 return Some(Awaited { atom, alone });
             }
             if node >= graph.count() {
@@ -212,6 +246,33 @@ fn count_undecided(edges: &[Edge], found: &[Verdict3]) -> usize {
         .iter()
         .filter(|edge| carried(edge, found) == Verdict3::Undecided)
         .count()
+}
+
+// Adds the sources that a node waits for so that it comes out as wanted, each with what is wanted of it.
+fn wait_for(
+    waiting: &mut Vec<(u32, bool)>,
+    graph: &Graph,
+    node: u32,
+    want: bool,
+    found: &[Verdict3],
+) -> Result<(), NoMemory> {
+    if node >= graph.count() {
+        return Ok(());
+    }
+    let needs_all = graph.is_all(node) == want;
+    for edge in graph.incoming(node) {
+        if carried(edge, found) == Verdict3::Undecided {
+            let wanted = match edge.relation {
+                Relation::Positive => want,
+                Relation::Negative => !want,
+            };
+            waiting.push((edge.from, wanted))?;
+            if !needs_all {
+                return Ok(());
+            }
+        }
+    }
+    Ok(())
 }
 
 fn first_undecided_source(edges: &[Edge], found: &[Verdict3]) -> Option<u32> {

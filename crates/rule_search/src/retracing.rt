@@ -71,7 +71,8 @@ fn side(
     Ok(end)
 }
 
-fn is_undecided(store: &Store<'_>, atom: u32) -> bool
+/// Whether the atom is one of the problem's, and undecided.
+pub(crate) fn is_undecided(store: &Store<'_>, atom: u32) -> bool
     ensures known { result ≡ true → atom < length store.now.problem.atoms }
     ensures undecided { result ≡ true → AtomHasVerdict store.now atom Undecided }
 {
@@ -110,8 +111,8 @@ fn are_refuted(store: &Store<'_>, paths: &[Seq<Literal>]) -> bool
     true
 }
 
-// Whether some literal of a path is refuted.
-fn is_refuted(store: &Store<'_>, path: &[Literal]) -> bool
+/// Whether some literal of a path is refuted.
+pub(crate) fn is_refuted(store: &Store<'_>, path: &[Literal]) -> bool
     ensures { result ≡ true → HasRefuted store.now.table (context_of store.now) store.now.problem.atoms path.now }
 {
     for literal in path {

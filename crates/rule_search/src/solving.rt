@@ -128,6 +128,7 @@ fn branch(
 }
 
 // One more split is explored.
+#[inline(never)]
 fn explore(work: &mut Work, atom: u32) -> Result<(), NoMemory>
     ensures { OnOk result (work.new.items.items ≡ work.old.items.items ++ Split atom ∷ []) }
 {
