@@ -19,7 +19,7 @@ use std::test::Fail;
 const MOST: usize = 10_000;
 
 // The keys by which CASES are judged.
-const KEYS: &str = r#"key = [
+pub(crate) const KEYS: &str = r#"key = [
 { name = "method", kind = "enum", variants = ["card", "wallet", "bank", "later", "cash"] },
 { name = "nothing", kind = "enum", variants = [] },
 { name = "country", kind = "enum", variants = [|1024*"v#",|] },
@@ -660,7 +660,7 @@ fn behind<'a>(lines: &'a str, word: &str) -> &'a str {
     ""
 }
 
-fn problem(alloc: Global, lines: &str) -> Option<Problem> {
+pub(crate) fn problem(alloc: Global, lines: &str) -> Option<Problem> {
     let mut problem = Problem {
         atoms: atoms(alloc, behind(lines, "atoms "))?,
         wants: Seq::new(alloc),
@@ -704,7 +704,7 @@ fn atoms_fit(table: &KeyTable, atoms: &[Atom]) -> bool
 }
 
 // What both checks find a certificate to be, the second one in just the room for it.
-fn verdict(
+pub(crate) fn verdict(
     alloc: Global,
     table: &KeyTable,
     problem: &Problem,

@@ -7,6 +7,8 @@ mod atoms;
 #[cfg(test)]
 mod cases;
 #[cfg(test)]
+mod certificate_files;
+#[cfg(test)]
 mod certificates;
 #[cfg(test)]
 mod graphs;
@@ -18,6 +20,10 @@ mod payment_files;
 mod payments;
 #[cfg(test)]
 mod programs;
+#[cfg(test)]
+mod samples;
+#[cfg(test)]
+mod search;
 #[cfg(test)]
 mod settings_files;
 #[cfg(test)]
