@@ -365,6 +365,33 @@ def pebble(size, _seed):
     return of_bars(bars, names)
 
 
+# Samples.
+
+SAMPLED = [
+    variant("payment_method", "card"),
+    variant("currency", "USD"),
+    variant("currency", "EUR", "not_equal"),
+    number("greater_than", 10000),
+    number("less_than", 50000),
+    variants("card_network", ["Visa", "Mastercard"]),
+    variant("billing_country", "US"),
+    variant("capture_method", "manual"),
+]
+
+
+def sample(size, _seed):
+    """The rules and settings that `euclidc sample` tries; the size is its number. The outputs are other ones."""
+    draws = Draws(size)
+    rules = []
+    for _ in range(256):
+        condition = [draws.pick(SAMPLED) for _ in range(3)]
+        draws.below(4)
+        rules.append([(condition, None)])
+    currencies = {"type": "enable_only", "list": ["USD", "EUR"]}
+    credit = {"payment_method_type": "credit", "accepted_currencies": currencies, "minimum_amount": 100}
+    return rules, [connector(0, {"card": [credit]})]
+
+
 FAMILIES = {
     "typical": typical,
     "dead": dead,
@@ -374,6 +401,7 @@ FAMILIES = {
     "rand3": random3,
     "php": pigeons,
     "pebble": pebble,
+    "sample": sample,
 }
 
 

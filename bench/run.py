@@ -1,5 +1,5 @@
 #!/usr/bin/env python3
-"""Reports on members of the families: answers, splits, bytes, time and instructions, and z3's time on the same rules.
+"""Reports on members of the families: answers, splits, bytes, instructions and time, and z3's time on the same rules.
 
 usage: run.py EUCLIDC [--budget B] [--seed N] [--verify] [MEMBER..]
 
@@ -24,6 +24,7 @@ import solver
 MEMBERS = [
     "typical-24", "typical-64", "typical-96", "typical-128", "dead-24", "dead-64", "dead-96", "dead-128", "bands-40",
     "matrix-3", "matrix-4", "chain-250", "rand3-40", "rand3-100", "php-5", "php-6", "pebble-3", "pebble-4",
+    "sample-7",
 ]
 SOLVER_SECONDS = 60
 
@@ -36,20 +37,18 @@ def report(program, folder, budget):
     return done.stdout, done.returncode, time.monotonic() - begun
 
 
-def instructions(program, folder, budget):
-    """User instructions of one run, by `perf stat` where it counts them, else by callgrind, else None."""
-    words = [program, "report", "-", str(folder / "program.json"), str(folder / "settings.json"), str(budget)]
-    if shutil.which("perf"):
-        done = subprocess.run(["perf", "stat", "-x", ",", "-e", "instructions:u"] + words, capture_output=True, text=True)
-        counted = re.search(r"^(\d+),", done.stderr, re.M)
-        if counted:
-            return int(counted.group(1))
-    if shutil.which("valgrind"):
-        tool = ["valgrind", "--tool=callgrind", "--callgrind-out-file=/dev/null"]
-        done = subprocess.run(tool + words, capture_output=True, text=True)
-        counted = re.search(r"Collected : (\d+)", done.stderr)
-        return int(counted.group(1)) if counted else None
-    return None
+def counted(program, folder, budget):
+    """Instructions of one run, and how many splits it explored, both by callgrind where it is there."""
+    if not shutil.which("valgrind"):
+        return None, None
+    words = [program, "report", "-", folder / "program.json", folder / "settings.json", str(budget)]
+    path = folder / "callgrind.out"
+    tool = ["valgrind", "--tool=callgrind", f"--callgrind-out-file={path}", "--compress-strings=no"]
+    subprocess.run(tool + words, capture_output=True)
+    text = path.read_text()
+    total = re.search(r"^summary: (\d+)", text, re.M)
+    calls = re.findall(r"^cfn=rule_search::solving::explore\ncalls=(\d+)", text, re.M)
+    return int(total.group(1)) if total else None, sum(int(count) for count in calls)
 
 
 def solved(name, seed, folder):
@@ -85,14 +84,15 @@ def row(program, name, arguments, folder):
     words, solver_seconds = solved(name, arguments.seed, folder)
     if words and not agree(answers, words):
         sys.exit(f"{name}: z3 answers otherwise")
-    counted = instructions(program, folder, arguments.budget)
+    instructions, explored = counted(program, folder, arguments.budget)
     cells = [
         name,
         *(str(counts[word]) for word in ("reached", "never", "open")),
+        "-" if explored is None else f"{explored:,}",
         str(sum(kept)),
         str(max(kept, default=0)),
         str(size),
-        f"{counted / 1e6:,.0f} M" if counted else "-",
+        f"{instructions / 1e6:,.0f} M" if instructions else "-",
         f"{1000 * seconds:.0f} ms",
         f"{1000 * solver_seconds:.0f} ms" if words else "-" if solver_seconds is None else f"over {SOLVER_SECONDS} s",
     ]
@@ -106,11 +106,11 @@ def main():
     parser.add_argument("--budget", type=int, default=65536)
     parser.add_argument("--seed", type=int, default=2)
     parser.add_argument("--verify", action="store_true")
-    arguments = parser.parse_args()
+    arguments = parser.parse_intermixed_args()
     if not shutil.which("z3"):
         print("z3 is not there: its column stays empty")
-    print("| Program | Reached | Never | Open | Splits kept | Largest certificate | Bytes | Instructions | Time | z3 |")
-    print("| --- " * 10 + "|")
+    print("| Program | Reached | Never | Open | Splits explored | Splits kept | Largest certificate | Bytes | Instructions | Time | z3 |")
+    print("| --- " * 11 + "|")
     with tempfile.TemporaryDirectory() as scratch:
         for name in arguments.members or MEMBERS:
             row(arguments.program, name, arguments, pathlib.Path(scratch) / name)
