@@ -1,38 +1,11 @@
 //! The program `euclidc`: words, files, answers.
 #![tactic(auto)]
 
-mod answer;
-mod certificate_file;
-mod check;
-mod command;
-mod convert;
-mod decide;
-mod decision;
-mod file;
-mod finding;
-mod forms;
-mod laws;
-mod payment_file;
-mod program_file;
-mod prove;
-mod refusal;
-mod report;
-mod role;
-mod run;
-mod sample;
-mod settings_file;
-mod status;
-mod table_file;
-mod target;
 #[cfg(test)]
 mod tests;
-mod top;
-mod typed_file;
-mod words;
 
-use run::run;
+use euclidc_commands::{Status, run};
 use shelf_io::{DirShelf, StdSink};
-use status::Status;
 use std::env;
 use std::io::ErrorKind;
 use std::process::ExitCode;

@@ -1,6 +1,4 @@
-use crate::forms::both_forms;
-use crate::status::Status;
-use crate::top::euclidc;
+use euclidc_commands::{Status, both_forms, euclidc};
 use json_program::read_json;
 use shelf_io::{MemShelf, MemSink, Shelf};
 use std::alloc::{AllocError, Global};

@@ -1,0 +1,13 @@
+use Rattle.std.proofs.Common.{[], ◌∷◌}
+use Rattle.euclidc_commands.specs.TypedFiles.{typed_file}
+use Rattle.euclidc_commands.specs.Report.{run_on, Reported}
+use Rattle.euclidc_commands.proofs.Joined.{concludes_next}
+use Rattle.euclidc_commands.proofs.report.report_by.Goals as goal
+
+pub returns : goal.returns
+returns g c =
+    let table = c.args.table.now in
+    let p = c.args.program_name.now in
+    let s = c.args.settings_name.now in
+    concludes_next (typed_file table p) (λ program. run_on table program s) (Reported c.args.budget) (p ∷ []) s [] (g.F.Shelf.seen c.args.shelf.now) (g.F.Shelf.seen c.read_typed.new.shelf) (g.F.Shelf.seen c.report_on.new.shelf)
+    c.in_ok-read.read.1 c.report_on.result c.in_ok-read.ensures.stage.0 c.in_ok-read.ensures.stage.1 c.report_on.ensures

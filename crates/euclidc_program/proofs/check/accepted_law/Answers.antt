@@ -1,5 +1,0 @@
-use Rattle.euclidc_program.proofs.CheckLemmas.{accepted}
-use Rattle.euclidc_program.proofs.check.accepted_law.Goals as goal
-
-pub returns : goal.returns
-returns c = accepted c.reaches_law.ensures c.proof_law.ensures

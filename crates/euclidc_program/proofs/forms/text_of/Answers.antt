@@ -1,5 +1,0 @@
-use Rattle.euclidc_program.proofs.FormLemmas.{text_reads}
-use Rattle.euclidc_program.proofs.forms.text_of.Goals as goal
-
-pub returns : goal.returns
-returns c = λ within. text_reads c.text_law.ensures c.args.program.now c.in_ok-text.text c.in_ok-text.ensures.text (c.in_ok-text.ensures.reads_back within)

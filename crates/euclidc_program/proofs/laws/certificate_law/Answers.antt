@@ -1,5 +1,0 @@
-use Rattle.euclidc_program.proofs.Printed.{certificate_good}
-use Rattle.euclidc_program.proofs.laws.certificate_law.Goals as goal
-
-pub returns : goal.returns
-returns c = certificate_good c.reading_law.ensures.certificate
