@@ -1378,6 +1378,383 @@ const CONVERSIONS: &str =
 const FRONTS: &str =
     r#"default~:~ [~"stripe"~ @~ "mca_1"~]?^"big card"~:~ [~"adyen"~ @~ "mca_2"~,~ "stripe"~ @~ "mca_1"~]~ {~^  payment_method~ =~ card~ &~ amount~ >~ 100000~ {~^    currency~ =~ (~USD~,~ EUR~)~^    metadata~ =~ "tier"~ :~ "gold"~^  }~^}?^"split"~:~ split~ [~"stripe"~ @~ "mca_1"~ %~ 60~,~ "adyen"~ @~ "mca_2"~ %~ 40~]~ {~^  payment_method~ =~ card~ &~ card_network~ /=~ Visa~^}?^"wallets"~:~ [~"paypal"~]~ {~^  payment_method~ =~ (~wallet~,~ pay_later~)~^}?"#;
 
+// The keys of CERTIFICATES.
+const CERTIFICATE_KEYS: &str =
+    r#"key = [{ name = "m", kind = "enum", variants = ["card", "wallet"] }, { name = "e", kind = "enum", variants = [] }, { name = "n", kind = "number" }, { name = "b", kind = "number", min = 10, max = 20 }, { name = "t", kind = "text" }, { name = "d", kind = "metadata" }]"#;
+
+// Certificates that no payment reaches the default of a program without rules where there is no connector. A section begins with
+// a file, in which an `@` stands for what each line that follows has behind its arrow; in front of the arrow stands what `check`
+// answers.
+const CERTIFICATES: &str = "@^atoms 0^end^
+1 rejected 0 <- euclid certificate 1
+3 refused certificate 6 1 <- euclid trace 1
+3 refused certificate 1 1 <- euclid trace 1|1* |
+3 refused certificate 1 1 <- euclid certificate 2
+3 refused certificate 1 1 <- euclid certificate 10
+3 refused certificate 1 1 <- euclid certificate 01
+3 refused certificate 1 1 <- euclid certificate
+3 refused certificate 1 1 <- euclid  certificate 1
+3 refused certificate 1 1 <- euclid!certificate 1
+3 refused certificate 1 1 <-  euclid certificate 1
+3 refused certificate 1 1 <- euclid certificate 1|1* |
+3 refused certificate 1 1 <- euclid certificate 1'
+3 refused certificate 1 1 <- Euclid certificate 1
+3 refused certificate 1 1 <- euclid Certificate 1
+3 refused certificate 1 1 <- euclid trace 2
+3 refused certificate 1 1 <- |0*x|
+3 refused certificate 1 1 <- certificate 1
+3 refused certificate 1 1 <- ﻿euclid certificate 1
+3 refused certificate 1 1 <- ^euclid certificate 1
+3 refused certificate 1 2 <- euclid certificate 1^euclid certificate 1
+===
+euclid certificate 1^@^end^
+1 rejected 0 <- atoms 0
+3 refused certificate 1 2 <- atoms 00
+3 refused certificate 1 2 <- atoms -0
+3 refused certificate 1 2 <- atoms +0
+3 refused certificate 1 2 <- atoms 0|1* |
+3 refused certificate 1 2 <-  atoms 0
+3 refused certificate 1 2 <- atoms  0
+3 refused certificate 1 2 <- atoms!0
+3 refused certificate 1 2 <- atoms 0'
+3 refused certificate 1 2 <- atoms
+3 refused certificate 1 2 <- atoms|1* |
+3 refused certificate 1 2 <- Atoms 0
+3 refused certificate 1 2 <- atom 0
+3 refused certificate 1 2 <- atoms 0x0
+3 refused certificate 1 2 <- atoms ０
+3 refused certificate 1 2 <- atoms -1
+3 refused certificate 5 2 <- atoms 65537
+3 refused certificate 5 2 <- atoms 4294967295
+3 refused certificate 1 2 <- atoms 4294967296
+3 refused certificate 1 2 <- atoms 18446744073709551616
+3 refused certificate 1 2 <- |0*x|
+3 refused certificate 1 3 <- atoms 1
+3 refused certificate 1 3 <- atoms 1^end
+3 refused certificate 1 2 <- end
+3 refused certificate 1 2 <- goal
+3 refused certificate 1 3 <- atoms 0^atoms 0
+1 rejected 0 <- atoms 1^m - any
+3 refused certificate 1 4 <- atoms 2^m - any
+3 refused certificate 1 4 <- atoms 1^m - any^m - any
+===
+euclid certificate 1^atoms 1^@^goal^end^
+0 accepted <- m - any v:card
+0 accepted <- m - none v:card
+0 accepted <- m - any
+0 accepted <- m - none
+0 accepted <- e - any
+0 accepted <- e - none
+0 accepted <- m - any v:card v:card
+0 accepted <- m - any v:card v:wallet
+0 accepted <- n - any eq:1
+0 accepted <- n - any eq:1 ne:1 lt:1 le:1 gt:1 ge:1
+3 refused certificate 1 3 <- m  - any v:card
+3 refused certificate 1 3 <- m -  any v:card
+3 refused certificate 1 3 <- m - any  v:card
+3 refused certificate 1 3 <- m - any v:card|1* |
+3 refused certificate 1 3 <- m - any|1* |
+3 refused certificate 1 3 <-  m - any
+3 refused certificate 1 3 <- m!- any
+3 refused certificate 1 3 <- m - any!v:card
+3 refused certificate 1 3 <- m - any'
+3 refused certificate 1 3 <- m - any v:card'
+3 refused certificate 1 3 <- m - any v: card
+3 refused certificate 1 3 <- m -any
+3 refused certificate 1 3 <- m- any
+3 refused certificate 1 3 <- m - anyv:card
+3 refused certificate 1 3 <- |0*x|
+3 refused certificate 1 3 <- m
+3 refused certificate 1 3 <- m|1* |
+3 refused certificate 1 3 <- m -
+3 refused certificate 1 3 <- m -|1* |
+3 refused certificate 1 3 <- m any
+3 refused certificate 1 3 <- m v:card
+3 refused certificate 1 3 <- any
+3 refused certificate 1 3 <- - any
+3 refused certificate 2 3 <- M - any
+3 refused certificate 2 3 <- mm - any
+3 refused certificate 2 3 <- x - any
+3 refused certificate 2 3 <- none - any
+3 refused certificate 2 3 <- m1 - any
+3 refused certificate 1 3 <- 1m - any
+3 refused certificate 1 3 <- m.n - any
+3 refused certificate 1 3 <- é - any
+3 refused certificate 2 3 <- _ - any
+3 refused certificate 1 3 <- m-m - any
+3 refused certificate 1 3 <- m x - any
+3 refused certificate 2 3 <- m x any
+3 refused certificate 2 3 <- m x61 any
+3 refused certificate 2 3 <- d - any
+0 accepted <- d x any
+0 accepted <- d x61 any
+3 refused certificate 1 3 <- d X61 any
+3 refused certificate 1 3 <- d x6 any
+3 refused certificate 1 3 <- d x6A any
+0 accepted <- d x6a any
+3 refused certificate 1 3 <- d x6g any
+3 refused certificate 1 3 <- d 61 any
+3 refused certificate 1 3 <- d xx61 any
+3 refused certificate 1 3 <- d x-61 any
+3 refused certificate 1 3 <- d x61-  any
+3 refused certificate 2 3 <- d xff any
+0 accepted <- d xc3a9 any
+3 refused certificate 2 3 <- d xc3 any
+3 refused certificate 2 3 <- d xeda080 any
+0 accepted <- d x00 any
+0 accepted <- d x0a any
+0 accepted <- d x20 any
+3 refused certificate 1 3 <- d -- any
+0 accepted <- d x|255*61| any
+3 refused certificate 5 3 <- d x|256*61| any
+3 refused certificate 2 3 <- d x|255*ff| any
+3 refused certificate 5 3 <- d x|256*ff| any
+3 refused certificate 5 3 <- m x|256*61| any
+3 refused certificate 2 3 <- n x61 any eq:1
+3 refused certificate 2 3 <- t x61 any t:61
+3 refused certificate 1 3 <- m - Any
+3 refused certificate 1 3 <- m - all
+3 refused certificate 1 3 <- m - non
+3 refused certificate 1 3 <- m - none_of
+3 refused certificate 1 3 <- m - nones
+3 refused certificate 1 3 <- m - anyany
+3 refused certificate 1 3 <- m - any none
+3 refused certificate 1 3 <- m - v:card any
+3 refused certificate 1 3 <- m - any v:
+3 refused certificate 2 3 <- m - any v:Card
+3 refused certificate 2 3 <- m - any v:cash
+3 refused certificate 1 3 <- m - any v:card,
+3 refused certificate 1 3 <- m - any v:car d
+3 refused certificate 1 3 <- m - any V:card
+3 refused certificate 1 3 <- m - any v=card
+3 refused certificate 1 3 <- m - any card
+3 refused certificate 1 3 <- m - any v::card
+3 refused certificate 1 3 <- m - any v:1
+3 refused certificate 1 3 <- m - any :card
+3 refused certificate 2 3 <- e - any v:card
+3 refused certificate 2 3 <- n - any v:card
+3 refused certificate 2 3 <- t - any v:card
+3 refused certificate 2 3 <- d x61 any v:card
+3 refused certificate 2 3 <- m - any eq:1
+3 refused certificate 2 3 <- m - any t:61
+3 refused certificate 2 3 <- m - any v:card t:61
+3 refused certificate 1 3 <- m - any v:é
+0 accepted <- t - any t:
+0 accepted <- t - any t:61
+3 refused certificate 1 3 <- t - any t:6
+3 refused certificate 1 3 <- t - any t:6A
+0 accepted <- t - any t:6a
+3 refused certificate 1 3 <- t - any t:6g
+3 refused certificate 1 3 <- t - any t:0x61
+3 refused certificate 1 3 <- t - any t:a
+3 refused certificate 1 3 <- t - any T:61
+0 accepted <- t - any t:61 t:61
+3 refused certificate 2 3 <- t - any t:ff
+0 accepted <- t - any t:c3a9
+3 refused certificate 2 3 <- t - any t:c3
+0 accepted <- t - any t:00
+0 accepted <- t - any t:|255*61|
+3 refused certificate 5 3 <- t - any t:|256*61|
+0 accepted <- t - any t:|127*c3a9|61
+3 refused certificate 5 3 <- t - any t:|128*c3a9|
+3 refused certificate 2 3 <- t - any t:|255*ff|
+3 refused certificate 5 3 <- t - any t:|256*ff|
+0 accepted <- d x61 any t:61
+0 accepted <- d x61 any t:
+3 refused certificate 2 3 <- d x61 any t:ff
+3 refused certificate 2 3 <- d x61 any eq:1
+3 refused certificate 2 3 <- t - any eq:1
+3 refused certificate 2 3 <- n - any t:61
+0 accepted <- t - none t:61
+3 refused certificate 1 3 <- t - any t:61x
+0 accepted <- n - any eq:0
+3 refused certificate 1 3 <- n - any eq:-0
+3 refused certificate 1 3 <- n - any eq:+1
+3 refused certificate 1 3 <- n - any eq:01
+3 refused certificate 1 3 <- n - any eq:-01
+3 refused certificate 1 3 <- n - any eq:00
+3 refused certificate 1 3 <- n - any eq:
+3 refused certificate 1 3 <- n - any eq:-
+3 refused certificate 1 3 <- n - any eq: 1
+3 refused certificate 1 3 <- n - any eq:1.0
+3 refused certificate 1 3 <- n - any eq:1e3
+3 refused certificate 1 3 <- n - any eq:0x1
+3 refused certificate 1 3 <- n - any eq:１
+3 refused certificate 1 3 <- n - any eq:--1
+0 accepted <- n - any eq:9223372036854775807
+3 refused certificate 1 3 <- n - any eq:9223372036854775808
+0 accepted <- n - any eq:-9223372036854775808
+3 refused certificate 1 3 <- n - any eq:-9223372036854775809
+3 refused certificate 1 3 <- n - any eq:18446744073709551616
+3 refused certificate 1 3 <- n - any EQ:1
+3 refused certificate 1 3 <- n - any e:1
+3 refused certificate 1 3 <- n - any =:1
+0 accepted <- n - any gt:1
+3 refused certificate 1 3 <- n - any gte:1
+3 refused certificate 1 3 <- n - any gt1
+0 accepted <- n - any ne:-5
+0 accepted <- n - any lt:10
+0 accepted <- n - any le:10
+0 accepted <- n - any ge:10
+0 accepted <- b - any eq:9
+0 accepted <- b - any eq:21
+0 accepted <- b - none lt:-9223372036854775808
+3 refused certificate 1 3 <- n - any gt:0100
+3 refused certificate 1 3 <- n - any eq:1,2
+0 accepted <- n - any|4096* eq:#|
+3 refused certificate 5 3 <- n - any|4097* eq:#|
+0 accepted <- m - any|4096* v:card|
+3 refused certificate 5 3 <- m - any|4097* v:card|
+0 accepted <- t - any|4096* t:|
+3 refused certificate 5 3 <- t - any|4097* t:|
+3 refused certificate 5 3 <- z - any|4097* eq:1|
+3 refused certificate 1 3 <- n - any|4097* eq:01|
+3 refused certificate 1 3 <- n - any|4096* eq:1| eq:01
+3 refused certificate 5 3 <- z - any t:|256*61|
+3 refused certificate 1 3 <- z - any t:6
+3 refused certificate 1 3 <- z - any eq:-0
+3 refused certificate 1 3 <- m - any v:cash eq:-0
+3 refused certificate 5 3 <- d xff any t:|256*61|
+3 refused certificate 1 3 <- z x|256*61| all
+3 refused certificate 5 3 <- m - any|4097* v:cash|
+3 refused certificate 1 3 <- d xff any t:6
+3 refused certificate 1 3 <- goal
+3 refused certificate 1 3 <- end
+3 refused certificate 1 3 <- split 0
+3 refused certificate 1 3 <- atoms 1
+3 refused certificate 1 3 <- euclid certificate 1
+===
+euclid certificate 1^atoms 0^@end^
+1 rejected 0 <- |0*x|
+0 accepted <- goal^
+1 rejected 0 <- split 0^
+1 rejected 0 <- split 4294967295^
+3 refused certificate 1 3 <- split 4294967296^
+3 refused certificate 1 3 <- split 4294967300^
+3 refused certificate 1 3 <- split 18446744073709551616^
+3 refused certificate 1 3 <- split 00^
+3 refused certificate 1 3 <- split 01^
+3 refused certificate 1 3 <- split -0^
+3 refused certificate 1 3 <- split -1^
+3 refused certificate 1 3 <- split +1^
+3 refused certificate 1 3 <- split 1.0^
+3 refused certificate 1 3 <- split 0x1^
+3 refused certificate 1 3 <- split a^
+3 refused certificate 1 3 <- split^
+3 refused certificate 1 3 <- split ^
+3 refused certificate 1 3 <- split  1^
+3 refused certificate 1 3 <-  split 1^
+3 refused certificate 1 3 <- split 1 ^
+3 refused certificate 1 3 <- split!1^
+3 refused certificate 1 3 <- split 1'^
+3 refused certificate 1 3 <- Split 1^
+3 refused certificate 1 3 <- splits 1^
+3 refused certificate 1 3 <- split1^
+3 refused certificate 1 3 <- split 1 2^
+3 refused certificate 1 3 <- split １^
+1 rejected 0 <- void 0^
+1 rejected 0 <- void 4294967295^
+3 refused certificate 1 3 <- void 4294967296^
+3 refused certificate 1 3 <- void 00^
+3 refused certificate 1 3 <- void^
+3 refused certificate 1 3 <- void ^
+3 refused certificate 1 3 <- void  0^
+3 refused certificate 1 3 <- void 0 ^
+1 rejected 0 <- want 0^
+1 rejected 0 <- want 4294967295^
+3 refused certificate 1 3 <- want 4294967296^
+3 refused certificate 1 3 <- want 07^
+3 refused certificate 1 3 <- want^
+3 refused certificate 1 3 <- want -1^
+3 refused certificate 1 3 <- want 0'^
+1 rejected 0 <- bar 0^
+1 rejected 0 <- bar 4294967295^
+3 refused certificate 1 3 <- bar 4294967296^
+3 refused certificate 1 3 <- bar 00^
+3 refused certificate 1 3 <- bar^
+3 refused certificate 1 3 <- bars 0^
+3 refused certificate 1 3 <- bar 0x^
+3 refused certificate 1 3 <- goal ^
+3 refused certificate 1 3 <-  goal^
+3 refused certificate 1 3 <- goal 0^
+3 refused certificate 1 3 <- Goal^
+3 refused certificate 1 3 <- goal'^
+3 refused certificate 1 3 <- goals^
+3 refused certificate 1 3 <- todo^
+3 refused certificate 1 3 <- todo 0^
+3 refused certificate 1 4 <- goal^todo^
+1 rejected 1 <- goal^goal^goal^
+3 refused certificate 1 3 <- ^
+3 refused certificate 1 4 <- goal^^
+3 refused certificate 1 3 <- m - any^
+3 refused certificate 1 3 <- end ^
+3 refused certificate 1 3 <- End^
+3 refused certificate 1 3 <- end'^
+3 refused certificate 1 3 <-  end^
+3 refused certificate 1 3 <- ends^
+3 refused certificate 1 3 <- end 0^
+3 refused certificate 1 3 <- !^
+3 refused certificate 1 3 <- é^
+1 rejected 1 <- |131073*goal^|
+3 refused certificate 5 131076 <- |131074*goal^|
+3 refused certificate 1 131076 <- |131073*goal^|todo^
+1 rejected 0 <- split 0^want 0^bar 0^void 0^goal^
+===
+euclid certificate 1^atoms 0^goal^@
+0 accepted <- end^
+3 refused certificate 3 4 <- end
+3 refused certificate 3 4 <- |0*x|
+3 refused certificate 3 4 <- en
+3 refused certificate 4 5 <- end^^
+3 refused certificate 4 5 <- end^|1* |
+3 refused certificate 4 5 <- end^end^
+3 refused certificate 4 5 <- end^x
+3 refused certificate 4 5 <- end^goal^end^
+3 refused certificate 4 5 <- end^euclid certificate 1^
+3 refused certificate 3 4 <- end'
+3 refused certificate 1 4 <- end'^
+3 refused certificate 1 4 <- end ^
+3 refused certificate 3 4 <- goal
+3 refused certificate 3 5 <- goal^
+3 refused certificate 3 4 <- todo
+3 refused certificate 1 4 <- todo^
+3 refused certificate 4 6 <- goal^end^end
+===
+@
+3 refused certificate 3 1 <- |0*x|
+3 refused certificate 1 1 <- ^
+3 refused certificate 3 1 <- euclid certificate 1
+3 refused certificate 3 1 <- euclid trace 1
+3 refused certificate 6 1 <- euclid trace 1^
+3 refused certificate 3 1 <- euclid trace 2
+3 refused certificate 3 2 <- euclid certificate 1^
+3 refused certificate 3 2 <- euclid certificate 1^atoms 0
+3 refused certificate 3 2 <- euclid certificate 1^atoms 65537
+3 refused certificate 3 3 <- euclid certificate 1^atoms 1^
+3 refused certificate 3 3 <- euclid certificate 1^atoms 1^z - any
+3 refused certificate 2 3 <- euclid certificate 1^atoms 1^z - any^
+3 refused certificate 2 3 <- euclid certificate 1^atoms 2^z - any^m  - any^end^
+3 refused certificate 1 3 <- euclid certificate 1^atoms 2^m  - any^z - any^end^
+3 refused certificate 2 3 <- euclid certificate 1^atoms 1^z - any^todo^end^
+3 refused certificate 1 4 <- euclid certificate 1^atoms 1^m - any^todo^end^^
+3 refused certificate 4 5 <- euclid certificate 1^atoms 0^goal^end^^todo
+3 refused certificate 5 2 <- euclid certificate 1^atoms 65537^m  - any^end^
+3 refused certificate 6 1 <- euclid trace 1^atoms 65537^end^
+3 refused certificate 6 1 <- euclid trace 1^atoms 0^todo^end^
+3 refused certificate 5 3 <- euclid certificate 1^atoms 2^n - any|4097* eq:1|^z - any^end^
+3 refused certificate 2 3 <- euclid certificate 1^atoms 2^z - any^n - any|4097* eq:1|^end^
+0 accepted <- euclid certificate 1^atoms 65536^|65536*n - any eq:#^|goal^end^
+1 rejected 2 <- euclid certificate 1^atoms 3^m - any v:card^m - any v:card^d x61 none t:61^split 2^split 0^split 7^end^
+3 refused certificate 3 1 <- euclid cer
+3 refused certificate 3 2 <- euclid certificate 1^ato
+3 refused certificate 3 4 <- euclid certificate 1^atoms 4^m - any v:card v:wallet^n - none l
+3 refused certificate 3 6 <- euclid certificate 1^atoms 4^m - any v:card v:wallet^n - none lt:-5 ge:10^t - any t: t:c3a9^d x61 n
+3 refused certificate 3 9 <- euclid certificate 1^atoms 4^m - any v:card v:wallet^n - none lt:-5 ge:10^t - any t: t:c3a9^d x61 none t:62^split 3^void 0^split 42
+3 refused certificate 3 10 <- euclid certificate 1^atoms 4^m - any v:card v:wallet^n - none lt:-5 ge:10^t - any t: t:c3a9^d x61 none t:62^split 3^void 0^split 4294967295^wan
+3 refused certificate 3 12 <- euclid certificate 1^atoms 4^m - any v:card v:wallet^n - none lt:-5 ge:10^t - any t: t:c3a9^d x61 none t:62^split 3^void 0^split 4294967295^want 0^bar 12^go
+3 refused certificate 3 13 <- euclid certificate 1^atoms 4^m - any v:card v:wallet^n - none lt:-5 ge:10^t - any t: t:c3a9^d x61 none t:62^split 3^void 0^split 4294967295^want 0^bar 12^goal^e
+1 rejected 1 <- euclid certificate 1^atoms 4^m - any v:card v:wallet^n - none lt:-5 ge:10^t - any t: t:c3a9^d x61 none t:62^split 3^void 0^split 4294967295^want 0^bar 12^goal^end^";
+
 const PROGRAM: &str =
     r#"{"defaultSelection":{"type":"priority","data":[{"connector":"stripe"}]},"rules":[{"name":"cards","connectorSelection":{"type":"priority","data":[{"connector":"adyen"}]},"statements":[{"condition":[{"lhs":"payment_method","comparison":"equal","value":{"type":"enum_variant","value":"card"}}]}]}]}"#;
 
@@ -1598,6 +1975,14 @@ fn conversion_of(alloc: Global, line: &str) -> Option<String> {
     format!(in alloc; "{answer}\n$ convert P {form}\nP {program}\n").ok()
 }
 
+// The case that a line of CERTIFICATES stands for, with the file of its section.
+fn certificate_of(alloc: Global, file: &str, line: &str) -> Option<String> {
+    let (answer, part) = line.split_once(" <- ")?;
+    let file = file.replace(alloc, "@", part).ok()?;
+    let (keys, file) = (CERTIFICATE_KEYS, file.as_str());
+    format!(in alloc; "{answer}\n$ check K P S default C\nK {keys}\nP EMPTY\nS []\nC {file}\n").ok()
+}
+
 // The case of a front of a program, which is a program or is refused at its end.
 fn front_of(alloc: Global, front: &str, is_program: bool) -> Result<String, AllocError> {
     if is_program {
@@ -1630,6 +2015,18 @@ fn programs_are_converted(rt: HostRuntime) -> Result<(), Fail> {
     for line in expanded(rt.alloc(), CONVERSIONS)?.lines() {
         let case = conversion_of(rt.alloc(), line).ok_or(line)?;
         check_case(&rt, case.as_str())?;
+    }
+    Ok(())
+}
+
+#[test]
+fn certificates_are_read(rt: HostRuntime) -> Result<(), Fail> {
+    for section in expanded(rt.alloc(), CERTIFICATES)?.split("\n===\n") {
+        let (file, lines) = section.split_once('\n').ok_or(section)?;
+        for line in lines.lines() {
+            let case = certificate_of(rt.alloc(), file, line).ok_or(line)?;
+            check_case(&rt, case.as_str())?;
+        }
     }
     Ok(())
 }

@@ -7,8 +7,6 @@ mod atoms;
 #[cfg(test)]
 mod cases;
 #[cfg(test)]
-mod certificate_files;
-#[cfg(test)]
 mod certificates;
 #[cfg(test)]
 mod graphs;

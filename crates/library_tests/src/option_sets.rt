@@ -1,17 +1,14 @@
-//! What assumptions leave to a slot: as its set of options tells it, as the checker of certificates does, and in a store.
+//! What assumptions leave to a slot, as its set of options tells it, and what a store knows under assumptions.
 
 ghost use Rattle.std.specs.Prelude.{◌≡◌, length};
-ghost use Rattle.std.specs.List.{list_all};
-ghost use Rattle.key_table.specs.Atoms.{atom_fits};
 
 use crate::cases::expanded;
-use crate::values::{atom, entry, payment, slot, test};
-use constraint_graph::{Builder, Relation};
-use contradiction_checker::{Verdict, check};
+use crate::certificates::problem;
+use crate::values::{atom, entry};
 use domain_store::Store;
 use interval_domains::{SlotDomain, SlotSet};
-use key_table::{Atom, Datum, KeyTable, Payment, Seq, Slot, Verdict3};
-use rule_problem::{Certificate, Item, Literal, Problem, problem_fits};
+use key_table::{Atom, Datum, KeyTable, Payment, Slot, Verdict3};
+use rule_problem::{Literal, problem_fits};
 use std::alloc::Global;
 use std::test::Fail;
 
@@ -210,24 +207,6 @@ entailed 3/=text:|256*a| of none 3/ given +none 3/
 refuted absent of any 3/x text:gold given -any 3/x text:gold
 void - of none 3/x given -none 3/x;+none 3/x";
 
-/// An atom that is asked under assumptions, by numbers of atoms.
-#[derive(Drop)]
-struct Question {
-    atoms: Seq<Atom>,
-    assumed: Vec<(u32, bool)>,
-    asked: u32,
-}
-
-// The number of an atom, which is put behind the others where it is new.
-fn number_of(atoms: &mut Seq<Atom>, atom: Atom) -> Option<u32> {
-    if let Some(place) = atoms.as_slice().iter().position(|other| *other == atom) {
-        return u32::try_from(place).ok();
-    }
-    let number = u32::try_from(atoms.as_slice().len()).ok()?;
-    atoms.push(atom).ok()?;
-    Some(number)
-}
-
 // What stands behind a `+` or a `-`, and whether it is a `+`.
 fn signed(word: &str) -> Option<(&str, bool)> {
     match word.strip_prefix('-') {
@@ -236,37 +215,24 @@ fn signed(word: &str) -> Option<(&str, bool)> {
     }
 }
 
-fn question_of(alloc: Global, words: &str) -> Option<Question> {
-    let (asked, context) = words.split_once(" given ").unwrap_or((words, ""));
-    let mut atoms = Seq::new(alloc);
-    let mut assumed = Vec::new(alloc);
-    let asked = number_of(&mut atoms, atom(alloc, asked)?)?;
-    for word in context.split_terminator(';') {
-        let (text, truth) = signed(word)?;
-        let number = number_of(&mut atoms, atom(alloc, text)?)?;
-        assumed.push((number, truth)).ok()?;
-    }
-    Some(Question {
-        atoms,
-        assumed,
-        asked,
-    })
-}
-
-// The options that the assumptions leave to the slot.
-fn domain_left(alloc: Global, table: &KeyTable, question: &Question) -> Option<SlotDomain> {
-    let atoms = question.atoms.as_slice();
-    let slot = &atoms.first()?.slot;
+// The options that assumptions leave to a slot.
+fn domain_left(
+    alloc: Global,
+    table: &KeyTable,
+    slot: &Slot,
+    assumptions: &str,
+) -> Option<SlotDomain> {
     if !table.slot_fits(slot) {
         return None;
     }
     let mut domain = SlotDomain::full(alloc, table, slot).ok()?;
-    for (number, truth) in question.assumed.as_slice() {
-        let atom = atoms.get(*number as usize)?;
-        if !table.atom_fits(atom) || atom.slot != *domain.slot() {
+    for word in assumptions.split_terminator(';') {
+        let (text, truth) = signed(word)?;
+        let atom = atom(alloc, text)?;
+        if !table.atom_fits(&atom) || atom.slot != *domain.slot() {
             return None;
         }
-        domain.keep(alloc, table, atom, *truth).ok()?;
+        domain.keep(alloc, table, &atom, truth).ok()?;
     }
     Some(domain)
 }
@@ -279,10 +245,11 @@ fn word_of(verdict: Verdict3) -> &'static str {
     }
 }
 
-fn pick_is(alloc: Global, slot: &Slot, picked: Option<Datum>, word: &str) -> Option<bool> {
-    match picked {
-        None => Some(word == "absent"),
-        Some(datum) => Some((slot.copy().ok()?, datum) == entry(alloc, word)?),
+// Whether the option is as a word says: `absent`, or an entry of the slot.
+fn pick_is(alloc: Global, slot: &Slot, picked: &Option<Datum>, word: &str) -> bool {
+    match entry(alloc, word) {
+        Some((place, datum)) => place == *slot && *picked == Some(datum),
+        None => picked.is_none() && word == "absent",
     }
 }
 
@@ -301,99 +268,20 @@ fn domain_tells(
     if !table.atom_fits(atom) || atom.slot != *domain.slot() {
         return None;
     }
-    let told = word_of(domain.verdict(table, atom));
+    if word_of(domain.verdict(table, atom)) != verdict {
+        return Some(false);
+    }
     let picked = domain.pick(alloc).ok()?;
-    Some(told == verdict && pick_is(alloc, domain.slot(), picked, pick)?)
+    Some(pick_is(alloc, domain.slot(), &picked, pick))
 }
 
-fn path(alloc: Global, atom: u32, want: bool) -> Option<Seq<Literal>> {
-    let mut path = Seq::new(alloc);
-    path.push(Literal { atom, want }).ok()?;
-    Some(path)
-}
-
-// The problem whose first bar is that the atom that is asked has a truth, and each further one that an atom is true, in order.
-fn barred(alloc: Global, question: &Question, want: bool) -> Option<Problem> {
-    let mut bars = Seq::new(alloc);
-    bars.push(path(alloc, question.asked, want)?).ok()?;
-    for number in 0..u32::try_from(question.atoms.as_slice().len()).ok()? {
-        bars.push(path(alloc, number, true)?).ok()?;
-    }
-    let mut builder = Builder::new(alloc);
-    let goal = builder.all().ok()?;
-    Some(Problem {
-        atoms: question.atoms.copy().ok()?,
-        wants: Seq::new(alloc),
-        bars,
-        graph: builder.finish(),
-        goal,
-    })
-}
-
-// The items that lead to the first bar under the assumptions. The side where an atom is true is left by its own bar.
-fn items(alloc: Global, question: &Question) -> Option<Seq<Item>> {
-    let mut items = Seq::new(alloc);
-    for (number, truth) in question.assumed.as_slice() {
-        items.push(Item::Split(*number)).ok()?;
-        if !*truth {
-            items.push(Item::Bar(number.checked_add(1)?)).ok()?;
-        }
-    }
-    items.push(Item::Bar(0)).ok()?;
-    Some(items)
-}
-
-fn atoms_fit(table: &KeyTable, atoms: &[Atom]) -> bool
-    ensures { result ≡ list_all (atom_fits table.now) atoms.now }
-{
-    atoms.iter().all(|atom| table.atom_fits(atom))
-}
-
-// Whether the checker takes the first bar under the assumptions, which is where its atom can have no other truth.
-fn has_only(alloc: Global, table: &KeyTable, question: &Question, want: bool) -> Option<bool> {
-    let problem = barred(alloc, question, want)?;
-    let certificate = Certificate {
-        atoms: problem.atoms.copy().ok()?,
-        items: items(alloc, question)?,
-    };
-    let count = u32::try_from(certificate.items.as_slice().len()).ok()?;
-    let atoms = certificate.atoms.as_slice();
-    if !problem_fits(table, &problem)
-        || !atoms_fit(table, atoms)
-        || u32::try_from(atoms.len()).is_err()
-    {
-        return None;
-    }
-    match check(alloc, table, &problem, &certificate).ok()? {
-        Verdict::Accepted => Some(true),
-        Verdict::Rejected(item) if item == count => Some(true),
-        Verdict::Rejected(item) => (item == count.checked_sub(1)?).then_some(false),
-    }
-}
-
-// What the checker knows of the atom that is asked.
-fn checker_tells(alloc: Global, table: &KeyTable, question: &Question) -> Option<&'static str> {
-    let only_true = has_only(alloc, table, question, true)?;
-    let only_false = has_only(alloc, table, question, false)?;
-    Some(match (only_true, only_false) {
-        (true, true) => "void",
-        (true, false) => word_of(Verdict3::Entailed),
-        (false, true) => word_of(Verdict3::Refuted),
-        (false, false) => word_of(Verdict3::Undecided),
-    })
-}
-
-// Whether both readings are as a line says.
-fn is_told(alloc: Global, table: &KeyTable, line: &str) -> Option<(bool, bool)> {
+// Whether the options are as a line says.
+fn is_told(alloc: Global, table: &KeyTable, line: &str) -> Option<bool> {
     let (wanted, words) = line.split_once(" of ")?;
-    let (verdict, _) = wanted.split_once(' ')?;
-    let question = question_of(alloc, words)?;
-    let domain = domain_left(alloc, table, &question)?;
-    let atom = question.atoms.as_slice().get(question.asked as usize)?;
-    Some((
-        domain_tells(alloc, table, &domain, atom, wanted)?,
-        checker_tells(alloc, table, &question)? == verdict,
-    ))
+    let (asked, assumptions) = words.split_once(" given ").unwrap_or((words, ""));
+    let atom = atom(alloc, asked)?;
+    let domain = domain_left(alloc, table, &atom.slot, assumptions)?;
+    domain_tells(alloc, table, &domain, &atom, wanted)
 }
 
 #[test]
@@ -401,11 +289,7 @@ fn assumptions_leave_options(rt: HostRuntime) -> Result<(), Fail> {
     let alloc = rt.alloc();
     let table = KeyTable::from_toml(alloc, KEYS)?;
     for line in expanded(alloc, ASKED)?.lines() {
-        assert_eq!(rt;
-            is_told(alloc, &table, line),
-            Some((true, true)),
-            "at {line}"
-        );
+        assert_eq!(rt; is_told(alloc, &table, line), Some(true), "at {line}");
     }
     Ok(())
 }
@@ -438,31 +322,11 @@ undo 0 ?????
 +1 3 -++++ 1=number:101;2=text:34";
 
 // An amount above 200 is wanted, one above 100 is barred, and the goal is one text.
-fn large_amounts(alloc: Global) -> Option<Problem> {
-    let mut atoms = Seq::new(alloc);
-    for text in ["any 1 >:200", "any 1 >:100", "any 2 text:34"] {
-        atoms.push(atom(alloc, text)?).ok()?;
-    }
-    let mut paths = Seq::new(alloc);
-    paths.push(path(alloc, 0, true)?).ok()?;
-    let mut wants = Seq::new(alloc);
-    wants.push(paths).ok()?;
-    let mut bars = Seq::new(alloc);
-    bars.push(path(alloc, 1, true)?).ok()?;
-    let mut builder = Builder::new(alloc);
-    let bin = builder
-        .value(slot(alloc, "2")?, test(alloc, "text:34")?)
-        .ok()?;
-    let goal = builder.all().ok()?;
-    builder.edge(bin, goal, Relation::Positive).ok()?;
-    Some(Problem {
-        atoms,
-        wants,
-        bars,
-        graph: builder.finish(),
-        goal,
-    })
-}
+const AMOUNTS: &str = "atoms any 1 >:200, any 1 >:100, any 2 text:34
+wants +0
+bars +1
+graph value 2 text:34, all, edge +0 1
+goal 1";
 
 fn take_step(alloc: Global, store: &mut Store<'_>, word: &str) -> Option<()>
     requires { length store.old.problem.atoms ≡ 3 }
@@ -506,14 +370,14 @@ fn marks(alloc: Global, store: &Store<'_>) -> Option<String>
 }
 
 // Whether a payment has these entries and no other.
-fn payment_is(alloc: Global, found: &Payment, entries: &str) -> Option<bool> {
-    let wanted = payment(alloc, entries)?;
-    Some(
-        found.count() == wanted.count()
-            && wanted
-                .iter()
-                .all(|(slot, datum)| found.get(slot) == Some(datum)),
-    )
+fn payment_is(alloc: Global, payment: &Payment, entries: &str) -> Option<bool> {
+    for word in entries.split_terminator(';') {
+        let (slot, datum) = entry(alloc, word)?;
+        if payment.get(&slot) != Some(&datum) {
+            return Some(false);
+        }
+    }
+    Some(payment.count() == entries.split_terminator(';').count())
 }
 
 // Whether a store is as a line says after its step.
@@ -536,7 +400,7 @@ fn is_stepped(alloc: Global, store: &mut Store<'_>, line: &str) -> Option<bool>
 fn stores_take_assumptions_back(rt: HostRuntime) -> Result<(), Fail> {
     let alloc = rt.alloc();
     let table = KeyTable::from_toml(alloc, KEYS)?;
-    let problem = large_amounts(alloc).ok_or("no problem")?;
+    let problem = problem(alloc, AMOUNTS).ok_or(AMOUNTS)?;
     assert!(rt; problem_fits(&table, &problem));
     assert_eq!(rt; problem.atoms.as_slice().len(), 3);
     let mut store = Store::new(alloc, &table, &problem)?;
