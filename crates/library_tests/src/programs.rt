@@ -32,7 +32,12 @@ const CHOICES: &str = r#"- {"defaultSelection":{"type":"none"},"rules":[]}
 !- {"defaultSelection":{"type":"none"},"rules":[{"name":"","connectorSelection":{"type":"none"},"statements":[{"condition":[{"lhs":"payment_method","comparison":"equal","value":{"type":"enum_variant","value":"card"}}]}]}]}
 !0 {"defaultSelection":{"type":"none"},"rules":[{"name":"","connectorSelection":{"type":"none"},"statements":[{"condition":[{"lhs":"payment_method","comparison":"not_equal","value":{"type":"enum_variant","value":"card"}}]}]}]}
 !- {"defaultSelection":{"type":"none"},"rules":[{"name":"","connectorSelection":{"type":"none"},"statements":[{"condition":[{"lhs":"payment_method","comparison":"equal","value":{"type":"enum_variant_array","value":["wallet","card"]}}]}]}]}
-!0 {"defaultSelection":{"type":"none"},"rules":[{"name":"","connectorSelection":{"type":"none"},"statements":[{"condition":[{"lhs":"payment_method","comparison":"not_equal","value":{"type":"enum_variant_array","value":["wallet","card"]}}]}]}]}"#;
+!0 {"defaultSelection":{"type":"none"},"rules":[{"name":"","connectorSelection":{"type":"none"},"statements":[{"condition":[{"lhs":"payment_method","comparison":"not_equal","value":{"type":"enum_variant_array","value":["wallet","card"]}}]}]}]}
+- {"defaultSelection":{"type":"none"},"rules":[{"name":"","connectorSelection":{"type":"none"},"statements":[{"condition":[{"lhs":"payment_method","comparison":"not_equal","value":{"type":"str_value","value":"wallet"}}]}]}]}
+- {"defaultSelection":{"type":"none"},"rules":[{"name":"","connectorSelection":{"type":"none"},"statements":[{"condition":[{"lhs":"payment_method","comparison":"not_equal","value":{"type":"number","value":5}}]}]}]}
+- {"defaultSelection":{"type":"none"},"rules":[{"name":"","connectorSelection":{"type":"none"},"statements":[{"condition":[{"lhs":"payment_method","comparison":"not_equal","value":{"type":"number_array","value":[5]}}]}]}]}
+- {"defaultSelection":{"type":"none"},"rules":[{"name":"","connectorSelection":{"type":"none"},"statements":[{"condition":[{"lhs":"payment_method","comparison":"not_equal","value":{"type":"number_comparison_array","value":[{"comparisonType":"equal","number":5}]}}]}]}]}
+- {"defaultSelection":{"type":"none"},"rules":[{"name":"","connectorSelection":{"type":"none"},"statements":[{"condition":[{"lhs":"payment_method","comparison":"not_equal","value":{"type":"metadata_variant","value":{"key":"card","value":"wallet"}}}]}]}]}"#;
 
 // What is written, and the program.
 const WRITTEN: &str =
